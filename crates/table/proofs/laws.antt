@@ -1,0 +1,20 @@
+-- Laws of a table, from the definitions alone; from the ground up.
+pub mod Slots
+pub mod Walks
+pub mod Visits
+pub mod Exact
+pub mod Structure
+pub mod Contents
+pub mod LiveEntries
+pub mod Nth
+pub mod Scratch
+pub mod Room
+pub mod Rebuild
+pub mod Insert
+pub mod Remove
+pub mod Potential
+pub mod Copy
+pub mod Found
+pub mod Moves
+pub mod Powers
+pub mod Tests

@@ -1,0 +1,18 @@
+-- `table::walk::find` meets its contract: no slots, the two ways to end at home, and the rest of the search. Assumes nothing.
+use borrow.Author.Needs.{needs}
+use Rattle.table.proofs.CodeWalk.{home-laws}
+use Rattle.table.proofs.walk.find.Statement.{statement}
+use Rattle.table.proofs.walk.find.Tie as tie
+
+pub find-spec : {M : Type 1} → statement M
+find-spec =
+    tie.close
+    (tie.spec
+    (λ c. search home-laws)
+    (λ c κs. search needs)
+    (λ c κs. search needs)
+    (λ c. search home-laws)
+    (λ c κs. search needs)
+    (λ c. search home-laws)
+    (λ c κs. search home-laws)
+    (λ c. search needs))
