@@ -1,0 +1,6 @@
+-- Document 01's rules of one space, as definitions over the space's own words.
+pub mod Words
+pub mod Sound
+pub mod Lookup
+pub mod Change
+pub mod Copy

@@ -1,0 +1,132 @@
+// What changes a space: inserting, removing, clearing, and its generation.
+ghost use mathlib.Core.Path.{_≡_};
+ghost use Prim.Native.Nat.{_<_};
+ghost use Rattle.table.specs.Slots.{entryAt};
+ghost use Rattle.space.specs.Words.{quotaOf, tableOf, slotWords, InRange, SlotOf};
+ghost use Rattle.space.specs.Lookup.{searchId, lookedUp};
+ghost use Rattle.space.specs.Change.{isFound, insertedTable, inserted, insertOut, answered, removed, removedToken, cleared, nextGeneration};
+use super::Insertion;
+use super::LookedUp;
+use super::find::entry_at;
+use super::find::exact;
+use super::find::search_id;
+use super::words::generation;
+use super::words::put_generation;
+use super::words::put_table;
+use super::words::quota;
+use super::words::table_of;
+use super::words::used;
+use answers::Answer;
+use table::CapTable;
+use table::CapabilityEntry;
+use table::Found;
+use table::Got;
+use token::CapabilityToken;
+
+fn is_found(found: Found) -> bool
+    ensures { λ r. ⌜ r ≡ isFound found ⌝ }
+{
+    match found {
+        Found::At(_) => true,
+        Found::Absent => false,
+    }
+}
+
+// Whether an entry has the id.
+fn holds_id(sp: &[u64], id: u64) -> bool
+    requires { ⌜ InRange (now sp) ⌝ }
+    ensures { λ r. ⌜ r ≡ isFound (searchId (now (sp .entry)) id .found) ⌝ }
+{
+    let found = search_id(sp, id).found;
+    is_found(found)
+}
+
+fn accept(sp: &mut [u64], entry: CapabilityEntry) -> usize
+    requires { ⌜ InRange (now sp) × (tableOf (now sp) .full < quotaOf (now sp)) ⌝ }
+    ensures { λ r. ⌜ now (sp .exit) ≡ inserted (now (sp .entry)) entry ⌝ }
+    ensures { λ r. ⌜ r ≡ insertedTable (now (sp .entry)) entry .moved ⌝ }
+{
+    let t = table_of(sp);
+    let s = table::insert_new(&mut sp[8..], t, entry);
+    let after = s.table;
+    put_table(sp, after);
+    s.moved
+}
+
+// Insert an entry: 11 at or over the quota, then 7 for an id that is already there.
+pub fn insert(sp: &mut [u64], entry: CapabilityEntry) -> Insertion
+    requires { ⌜ InRange (now sp) ⌝ }
+    ensures { λ r. ⌜ answered r (now (sp .exit)) ≡ insertOut (now (sp .entry)) entry ⌝ }
+{
+    let capability = entry.capability;
+    if quota(sp) <= used(sp) {
+        return Insertion {
+            answer: Answer::SpaceQuota,
+            moved: 0,
+        };
+    }
+    if holds_id(sp, capability.0 % 0x1_0000_0000_0000) {
+        return Insertion {
+            answer: Answer::AlreadyExists,
+            moved: 0,
+        };
+    }
+    Insertion {
+        answer: Answer::Done,
+        moved: accept(sp, entry),
+    }
+}
+
+// The entry of slot i leaves.
+fn remove_slot(sp: &mut [u64], i: usize) -> CapabilityEntry
+    requires { ⌜ SlotOf (now sp) i ⌝ }
+    ensures { λ _. ⌜ now (sp .exit) ≡ removed (now (sp .entry)) i ⌝ }
+    ensures { λ r. ⌜ r ≡ entryAt (slotWords (now (sp .entry))) i ⌝ }
+{
+    let entry = entry_at(sp, i);
+    let t = table_of(sp);
+    let s = table::remove_at(&mut sp[8..], t, i);
+    let after = s.table;
+    put_table(sp, after);
+    entry
+}
+
+// Only exactly this token removes its entry, which is the answer; a stale one leaves the live capability alone.
+pub fn remove(sp: &mut [u64], token: CapabilityToken) -> LookedUp
+    requires { ⌜ InRange (now sp) ⌝ }
+    ensures { λ _. ⌜ now (sp .exit) ≡ removedToken (now (sp .entry)) (token .0) ⌝ }
+    ensures { λ r. ⌜ r ≡ lookedUp (now (sp .entry)) (token .0) ⌝ }
+{
+    let s = exact(sp, token);
+    let found = s.found;
+    let Found::At(i) = found else {
+        return LookedUp {
+            got: Got::Nothing,
+            visits: s.visits,
+        };
+    };
+    LookedUp {
+        got: Got::Entry(remove_slot(sp, i)),
+        visits: s.visits,
+    }
+}
+
+pub fn clear(sp: &mut [u64])
+    requires { ⌜ InRange (now sp) ⌝ }
+    ensures { λ _. ⌜ now (sp .exit) ≡ cleared (now (sp .entry)) ⌝ }
+{
+    let none = CapTable {
+        slots: 0,
+        full: 0,
+        tombstones: 0,
+    };
+    put_table(sp, none);
+}
+
+pub fn next_generation(sp: &mut [u64])
+    requires { ⌜ InRange (now sp) ⌝ }
+    ensures { λ _. ⌜ now (sp .exit) ≡ nextGeneration (now (sp .entry)) ⌝ }
+{
+    let next = std::num::wrapping_add_u8(generation(sp), 1);
+    put_generation(sp, next);
+}

@@ -1,0 +1,123 @@
+// Finding an entry: by its whole token, counted; by its id alone; by its place in slot order.
+ghost use mathlib.Core.Path.{_≡_};
+ghost use Rattle.table.specs.Slots.{entryAt};
+ghost use Rattle.table.specs.Insert.{liveEntries};
+ghost use Rattle.table.specs.Copy.{nthOf};
+ghost use Rattle.space.specs.Words.{tableOf, slotWords, InRange, SlotOf};
+ghost use Rattle.space.specs.Lookup.{searchId, wholly, exactSearch, countedAt, counted, lookedUp, gotEntry};
+use super::LookedUp;
+use super::words::table_capacity;
+use table::CapabilityEntry;
+use table::Found;
+use table::Got;
+use table::Nth;
+use table::Search;
+use token::CapabilityToken;
+
+pub fn search_id(sp: &[u64], id: u64) -> Search
+    requires { ⌜ InRange (now sp) ⌝ }
+    ensures { λ r. ⌜ r ≡ searchId (now (sp .entry)) id ⌝ }
+{
+    table::find(&sp[8..], table_capacity(sp), id)
+}
+
+pub fn entry_at(sp: &[u64], i: usize) -> CapabilityEntry
+    requires { ⌜ SlotOf (now sp) i ⌝ }
+    ensures { λ r. ⌜ r ≡ entryAt (slotWords (now (sp .entry))) i ⌝ }
+{
+    table::entry_at(&sp[8..], i)
+}
+
+// Slot i, if it holds the whole token.
+fn whole(sp: &[u64], token: u64, i: usize) -> Found
+    requires { ⌜ SlotOf (now sp) i ⌝ }
+    ensures { λ r. ⌜ r ≡ wholly (now (sp .entry)) token (Found.At i) ⌝ }
+{
+    if sp[8 + 4 * i] == token {
+        return Found::At(i);
+    }
+    Found::Absent
+}
+
+// The slot that holds exactly the token, and the slots that the search of its id visited.
+pub fn exact(sp: &[u64], token: CapabilityToken) -> Search
+    requires { ⌜ InRange (now sp) ⌝ }
+    ensures { λ r. ⌜ r ≡ exactSearch (now (sp .entry)) (token .0) ⌝ }
+{
+    let s = search_id(sp, token.0 % 0x1_0000_0000_0000);
+    let found = s.found;
+    let Found::At(i) = found else {
+        return s;
+    };
+    Search {
+        found: whole(sp, token.0, i),
+        visits: s.visits,
+    }
+}
+
+fn count_hit(sp: &mut [u64], i: usize)
+    requires { ⌜ SlotOf (now sp) i ⌝ }
+    ensures { λ _. ⌜ now (sp .exit) ≡ countedAt (now (sp .entry)) (Found.At i) ⌝ }
+{
+    let at = 8 + 4 * i + 2;
+    let uses = std::num::wrapping_add_u64(sp[at], 1);
+    sp[2] = std::num::wrapping_add_u64(sp[2], 1);
+    sp[at] = uses;
+}
+
+fn count_miss(sp: &mut [u64])
+    requires { ⌜ InRange (now sp) ⌝ }
+    ensures { λ _. ⌜ now (sp .exit) ≡ countedAt (now (sp .entry)) Found.Absent ⌝ }
+{
+    sp[3] = std::num::wrapping_add_u64(sp[3], 1);
+}
+
+// Lookup of exactly this token, counted. The entry is answered as it was before its use.
+pub fn lookup(sp: &mut [u64], token: CapabilityToken) -> LookedUp
+    requires { ⌜ InRange (now sp) ⌝ }
+    ensures { λ _. ⌜ now (sp .exit) ≡ counted (now (sp .entry)) (token .0) ⌝ }
+    ensures { λ r. ⌜ r ≡ lookedUp (now (sp .entry)) (token .0) ⌝ }
+{
+    let s = exact(sp, token);
+    let found = s.found;
+    let Found::At(i) = found else {
+        count_miss(sp);
+        return LookedUp {
+            got: Got::Nothing,
+            visits: s.visits,
+        };
+    };
+    let entry = entry_at(sp, i);
+    count_hit(sp, i);
+    LookedUp {
+        got: Got::Entry(entry),
+        visits: s.visits,
+    }
+}
+
+// The entry of an id, whatever its generation; not counted.
+pub fn get_entry(sp: &[u64], id: u64) -> LookedUp
+    requires { ⌜ InRange (now sp) ⌝ }
+    ensures { λ r. ⌜ r ≡ gotEntry (now (sp .entry)) id ⌝ }
+{
+    let s = search_id(sp, id);
+    let found = s.found;
+    let Found::At(i) = found else {
+        return LookedUp {
+            got: Got::Nothing,
+            visits: s.visits,
+        };
+    };
+    LookedUp {
+        got: Got::Entry(entry_at(sp, i)),
+        visits: s.visits,
+    }
+}
+
+// The n-th live entry in slot order, n from 0.
+pub fn nth_entry(sp: &[u64], n: usize) -> Nth
+    requires { ⌜ InRange (now sp) ⌝ }
+    ensures { λ r. ⌜ r ≡ nthOf (liveEntries (slotWords (now (sp .entry))) 0 (tableOf (now (sp .entry)) .slots)) n ⌝ }
+{
+    table::nth_entry(&sp[8..], table_capacity(sp), n)
+}

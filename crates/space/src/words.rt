@@ -1,0 +1,77 @@
+// The words of a space, read and written.
+ghost use mathlib.Core.Path.{_≡_};
+ghost use Prim.Native.Nat.{_≤_};
+ghost use lib.ListN.{length, set};
+ghost use Rattle.space.specs.Words.{quotaOf, generationOf, hitsOf, missesOf, tableOf, withCounts, InRange};
+use table::CapTable;
+
+pub fn quota(sp: &[u64]) -> usize
+    requires { ⌜ InRange (now sp) ⌝ }
+    ensures { λ r. ⌜ r ≡ quotaOf (now (sp .entry)) ⌝ }
+{
+    sp[0] as usize
+}
+
+pub fn generation(sp: &[u64]) -> u8
+    requires { ⌜ InRange (now sp) ⌝ }
+    ensures { λ r. ⌜ r ≡ generationOf (now (sp .entry)) ⌝ }
+{
+    sp[1] as u8
+}
+
+pub fn hits(sp: &[u64]) -> u64
+    requires { ⌜ InRange (now sp) ⌝ }
+    ensures { λ r. ⌜ r ≡ hitsOf (now (sp .entry)) ⌝ }
+{
+    sp[2]
+}
+
+pub fn misses(sp: &[u64]) -> u64
+    requires { ⌜ InRange (now sp) ⌝ }
+    ensures { λ r. ⌜ r ≡ missesOf (now (sp .entry)) ⌝ }
+{
+    sp[3]
+}
+
+// Slots allocated by the table.
+pub fn table_capacity(sp: &[u64]) -> usize
+    requires { ⌜ InRange (now sp) ⌝ }
+    ensures { λ r. ⌜ r ≡ tableOf (now (sp .entry)) .slots ⌝ }
+{
+    sp[5] as usize
+}
+
+// The current number of capabilities; the source's `total_caps` is the same word.
+pub fn used(sp: &[u64]) -> usize
+    requires { ⌜ InRange (now sp) ⌝ }
+    ensures { λ r. ⌜ r ≡ tableOf (now (sp .entry)) .full ⌝ }
+{
+    sp[6] as usize
+}
+
+pub fn table_of(sp: &[u64]) -> CapTable
+    requires { ⌜ 8 ≤ length (now sp) ⌝ }
+    ensures { λ r. ⌜ r ≡ tableOf (now (sp .entry)) ⌝ }
+{
+    CapTable {
+        slots: sp[5] as usize,
+        full: sp[6] as usize,
+        tombstones: sp[7] as usize,
+    }
+}
+
+pub fn put_table(sp: &mut [u64], t: CapTable)
+    requires { ⌜ 8 ≤ length (now sp) ⌝ }
+    ensures { λ _. ⌜ now (sp .exit) ≡ withCounts (now (sp .entry)) t ⌝ }
+{
+    sp[5] = t.slots as u64;
+    sp[6] = t.full as u64;
+    sp[7] = t.tombstones as u64;
+}
+
+pub fn put_generation(sp: &mut [u64], generation: u8)
+    requires { ⌜ 8 ≤ length (now sp) ⌝ }
+    ensures { λ _. ⌜ now (sp .exit) ≡ set (now (sp .entry)) 1 generation ⌝ }
+{
+    sp[1] = generation as u64;
+}
