@@ -1,0 +1,6 @@
+-- Document 01's rules of the registry, as definitions over the registry's own words.
+pub mod Words
+pub mod Sound
+pub mod SoundLaws
+pub mod Look
+pub mod Counts

@@ -1,0 +1,2 @@
+// The registry, on its own slice of words.
+pub mod look;

@@ -1,0 +1,237 @@
+// The look over a registry: document 01's rules of it, in a few passes over what it holds.
+ghost use mathlib.Core.Path.{_≡_};
+ghost use mathlib.Core.Bool.{true};
+ghost use Prim.Native.Nat.{_+_, _*_, _<_, _≤_};
+ghost use lib.Dec.{leb, eqb};
+ghost use lib.ListN.{length, getD, take};
+ghost use Rattle.base.specs.Below.{all};
+ghost use Rattle.base.specs.Chain.{Chained};
+ghost use Rattle.base.specs.Choose.{both};
+ghost use Rattle.registry.specs.Words.{idAt, stateAt, linkAt, revoked, listed, holders};
+ghost use Rattle.registry.specs.Sound.{linkedTest, shortTest, unregisteredId, withinTest, registryTest};
+ghost use Rattle.registry.specs.Counts.{Counted, countEntry, AtMost};
+ghost use Rattle.registry.specs.Look.{placeTest, recycledIdTest, passesTest};
+use base::distinct::Place;
+use base::distinct::index;
+use base::distinct::place_of;
+
+// Whether a child may have this state below a parent of that state: the parent has a list, and is not revoked unless the child is.
+fn child_sound(parent: u64, child: u64) -> bool
+    ensures { λ r. ⌜ r ≡ both (eqb (listed parent) 1) (leb (revoked parent) (revoked child)) ⌝ }
+{
+    if parent / 2 % 2 == 1 {
+        return parent % 2 <= child % 2;
+    }
+    false
+}
+
+// The rules of place k.
+fn place_sound(rg: &[u64], places: usize, next: u64, k: usize) -> bool
+    requires { ⌜ (k < places) × (places ≤ 4095) × (4 * places ≤ length (now rg)) ⌝ }
+    ensures { λ r. ⌜ r ≡ placeTest places next (now (rg .entry)) k ⌝ }
+{
+    let id = rg[k];
+    if id < 1 {
+        return false;
+    }
+    if next <= id {
+        return false;
+    }
+    let link = rg[3 * places + k] as usize;
+    if k < link {
+        return false;
+    }
+    if link == 0 {
+        return true;
+    }
+    child_sound(rg[2 * places + (link - 1)], rg[2 * places + k])
+}
+
+// The rules of each of n places.
+fn places_sound(rg: &[u64], places: usize, n: usize, next: u64) -> bool
+    requires { ⌜ (n ≤ places) × (places ≤ 4095) × (4 * places ≤ length (now rg)) ⌝ }
+    ensures { λ r. ⌜ r ≡ all n (placeTest places next (now (rg .entry))) ⌝ }
+{
+    let mut k = 0;
+    while k < n {
+        if place_sound(rg, places, next, k) {
+            k += 1;
+        } else {
+            return false;
+        }
+    }
+    true
+}
+
+// The link at place k, of n places whose links name earlier ones.
+fn link_at(rg: &[u64], places: usize, n: usize, k: usize) -> usize
+    requires { ⌜ (k < n) × (n ≤ places) × (places ≤ 4095) × (4 * places ≤ length (now rg)) ⌝ }
+    requires { ⌜ linkedTest n (linkAt places (now rg)) ≡ true ⌝ }
+    ensures { λ r. ⌜ (r ≡ linkAt places (now (rg .entry)) k) × (r ≤ k) ⌝ }
+{
+    rg[3 * places + k] as usize
+}
+
+// Whether no list of n places holds over 1,024, in counters of children that are 0 yet.
+fn count_children(rg: &[u64], places: usize, n: usize, counts: &mut [u16]) -> bool
+    requires { ⌜ (n ≤ places) × (places ≤ 4095) × (4 * places ≤ length (now rg)) × (n ≤ length (now counts)) ⌝ }
+    requires { ⌜ linkedTest n (linkAt places (now rg)) ≡ true ⌝ }
+    requires { ⌜ Counted (linkAt places (now rg)) 0 (now counts) ⌝ }
+    ensures { λ r. ⌜ r ≡ shortTest n (linkAt places (now (rg .entry))) ⌝ }
+{
+    let mut k = 0;
+    while k < n {
+        let link = link_at(rg, places, n, k);
+        if link == 0 {
+            k += 1;
+            continue;
+        }
+        let p = link - 1;
+        let count = counts[p];
+        if 1024 <= count {
+            return false;
+        }
+        counts[p] = count + 1;
+        k += 1;
+    }
+    true
+}
+
+// Whether no list of n places holds over 1,024: fewer places have no such list.
+fn lists_short(rg: &[u64], places: usize, n: usize) -> bool
+    requires { ⌜ (n ≤ places) × (places ≤ 4095) × (4 * places ≤ length (now rg)) ⌝ }
+    requires { ⌜ linkedTest n (linkAt places (now rg)) ≡ true ⌝ }
+    ensures { λ r. ⌜ r ≡ shortTest n (linkAt places (now (rg .entry))) ⌝ }
+{
+    if n <= 1024 {
+        return true;
+    }
+    let mut counts = [0u16; 4096];
+    count_children(rg, places, n, &mut counts)
+}
+
+// Whether none of n ids is this one, by the index of the ids.
+fn unregistered(rg: &[u64], n: usize, heads: &[u16], prevs: &[u16], id: u64) -> bool
+    requires { ⌜ n ≤ length (now rg) ⌝ }
+    requires { ⌜ Chained (take n (now rg)) (now heads) (now prevs) (length (take n (now rg))) ⌝ }
+    ensures { λ r. ⌜ r ≡ unregisteredId n (idAt (now (rg .entry))) id ⌝ }
+{
+    match place_of(&rg[..n], heads, prevs, id) {
+        Place::At(_) => false,
+        Place::Nowhere => true,
+    }
+}
+
+// The rules of each of m recycled ids, by the index of the n registered ones.
+fn recycled_sound(
+    rg: &[u64],
+    places: usize,
+    n: usize,
+    m: usize,
+    next: u64,
+    heads: &[u16],
+    prevs: &[u16],
+) -> bool
+    requires { ⌜ (n ≤ places) × (m ≤ places + 1) × (places ≤ 4095) × (5 * places + 1 ≤ length (now rg)) ⌝ }
+    requires { ⌜ Chained (take n (now rg)) (now heads) (now prevs) (length (take n (now rg))) ⌝ }
+    ensures { λ r. ⌜ r ≡ all m (recycledIdTest places n next (now (rg .entry))) ⌝ }
+{
+    let mut last = 0;
+    let mut j = 0;
+    while j < m {
+        let id = rg[4 * places + j];
+        if id <= last {
+            return false;
+        }
+        if next <= id {
+            return false;
+        }
+        if unregistered(rg, n, heads, prevs, id) {
+            last = id;
+            j += 1;
+        } else {
+            return false;
+        }
+    }
+    true
+}
+
+// The passes once the ids are indexed.
+fn passes_sound(
+    rg: &[u64],
+    places: usize,
+    n: usize,
+    m: usize,
+    next: u64,
+    heads: &[u16],
+    prevs: &[u16],
+) -> bool
+    requires { ⌜ (n ≤ places) × (m ≤ places + 1) × (places ≤ 4095) × (5 * places + 1 ≤ length (now rg)) ⌝ }
+    requires { ⌜ Chained (take n (now rg)) (now heads) (now prevs) (length (take n (now rg))) ⌝ }
+    ensures { λ r. ⌜ r ≡ passesTest places n m next (now (rg .entry)) ⌝ }
+{
+    if places_sound(rg, places, n, next) {
+        if lists_short(rg, places, n) {
+            return recycled_sound(rg, places, n, m, next, heads, prevs);
+        }
+    }
+    false
+}
+
+// The rules of a registry of n registered and m recycled ids, but for the holders'. If they hold, heads and prevs, which index nothing
+// yet, are left as the index of the registered ids.
+pub fn registry_sound(
+    rg: &[u64],
+    places: usize,
+    n: usize,
+    m: usize,
+    next: u64,
+    heads: &mut [u16],
+    prevs: &mut [u16],
+) -> bool
+    requires { ⌜ (n ≤ places) × (m ≤ places + 1) × (places ≤ 4095) × (5 * places + 1 ≤ length (now rg)) ⌝ }
+    requires { ⌜ Chained (take n (now rg)) (now heads) (now prevs) 0 ⌝ }
+    ensures { λ r. ⌜ r ≡ registryTest places n m next (now (rg .entry)) ⌝ }
+    ensures { λ r. ⌜ (r ≡ true → Chained (take n (now (rg .entry))) (now (heads .exit)) (now (prevs .exit)) (length (take n (now (rg .entry))))) ⌝ }
+{
+    if index(&rg[..n], heads, prevs) {
+        return passes_sound(rg, places, n, m, next, heads, prevs);
+    }
+    false
+}
+
+// Whether the holders at place k are at most its count.
+fn within(rg: &[u64], places: usize, counts: &[u16], k: usize) -> bool
+    requires { ⌜ (k < places) × (places ≤ 4095) × (4 * places ≤ length (now rg)) × (k < length (now counts)) ⌝ }
+    ensures { λ r. ⌜ r ≡ leb (holders (stateAt places (now (rg .entry)) k)) (getD (now (counts .entry)) k 0) ⌝ }
+{
+    rg[2 * places + k] / 4 <= counts[k] as u64
+}
+
+// Whether the holders at each of n places are at most its count.
+pub fn holders_within(rg: &[u64], places: usize, n: usize, counts: &[u16]) -> bool
+    requires { ⌜ (n ≤ places) × (places ≤ 4095) × (4 * places ≤ length (now rg)) × (n ≤ length (now counts)) ⌝ }
+    ensures { λ r. ⌜ r ≡ withinTest n (stateAt places (now (rg .entry))) (λ k. getD (now (counts .entry)) k 0) ⌝ }
+{
+    let mut k = 0;
+    while k < n {
+        if within(rg, places, counts, k) {
+            k += 1;
+        } else {
+            return false;
+        }
+    }
+    true
+}
+
+// Counts an entry of an id at the id's place, by the index of the ids, if it is registered.
+pub fn count_entry(ids: &[u64], heads: &[u16], prevs: &[u16], counts: &mut [u16], id: u64)
+    requires { ⌜ Chained (now ids) (now heads) (now prevs) (length (now ids)) ⌝ }
+    requires { ⌜ length (now ids) ≤ length (now counts) ⌝ }
+    requires { ⌜ AtMost 65534 (now counts) ⌝ }
+    ensures { λ r. ⌜ now (counts .exit) ≡ countEntry (now (ids .entry)) id (now (counts .entry)) ⌝ }
+{
+    if let Place::At(k) = place_of(ids, heads, prevs, id) {
+        counts[k] += 1;
+    }
+}
