@@ -1,0 +1,36 @@
+-- Document 01's number and value for each case of an enum that answers: done and what was made, or the refusal's number and 0.
+use Prim.Native.Nat.{ℕ}
+use mathlib.Core.Bool.{false}
+use mathlib.Core.List.{List}
+use Rattle.answers.specs.Number.{numberOf}
+use Rattle.token.specs.Flags.{hasFlag}
+use Rattle.token.specs.declared.capability.Made.{Made}
+use Rattle.token.specs.declared.capability.Made.the-variants.{Token}
+use Rattle.token.specs.declared.flags.Combined.{Combined}
+use Rattle.token.specs.declared.flags.Combined.the-variants.{Flags}
+use Rattle.token.specs.declared.flags.Named.{Named}
+use Rattle.token.specs.declared.flags.Named.the-variants.{Flag}
+use Rattle.world.specs.Open.{Left}
+use Rattle.host.specs.declared.flags.FlagsAnswer.{FlagsAnswer}
+use Rattle.host.specs.declared.flags.HasAnswer.{HasAnswer}
+use Rattle.host.specs.declared.tokens.TokenAnswer.{TokenAnswer}
+
+abbrev pub tokenAnswer : Made → TokenAnswer
+tokenAnswer (Token made) = record { answer = 0; token = made .0 }
+tokenAnswer (Made.Refused why) = record { answer = numberOf why; token = 0 }
+
+abbrev pub hasAnswer : ℕ → Named → HasAnswer
+hasAnswer flags (Flag perm) = record { answer = 0; has = hasFlag flags perm }
+hasAnswer flags (Named.Refused why) = record { answer = numberOf why; has = false }
+
+abbrev pub flagsAnswer : Combined → FlagsAnswer
+flagsAnswer (Flags flags) = record { answer = 0; flags = flags }
+flagsAnswer (Combined.Refused why) = record { answer = numberOf why; flags = 0 }
+
+-- A call on a memory: the answer's number, and the memory that it leaves.
+pub record Numbered : Type 0 where
+  pub answer : ℕ
+  pub memory : List ℕ
+
+abbrev pub numbered : Left → Numbered
+numbered left = record { answer = numberOf (left .answer); memory = left .memory }

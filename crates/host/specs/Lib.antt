@@ -1,0 +1,2 @@
+-- What the contracts of `host` cite beside those of the crates that it exports.
+pub mod Answered

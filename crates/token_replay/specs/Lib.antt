@@ -1,0 +1,2 @@
+-- What the contracts of `token_replay` cite.
+pub mod Line
