@@ -1,0 +1,48 @@
+// ---- Appended to the copy of revocation.rs: private state for the comparison.
+
+/// The notices of one pid, the oldest first: id, time, reason.
+#[derive(Debug, Clone, PartialEq, Eq)]
+pub struct QueueView {
+    pub pid: u64,
+    pub notices: Vec<(u64, u64, RevocationReason)>,
+}
+
+/// The tree by ascending parent, each list in its own order; the set ascends, the log has the same
+/// pairs in the order of arrival; queues by ascending pid.
+#[derive(Debug, Clone, PartialEq, Eq)]
+pub struct RevocationView {
+    pub tree: Vec<(u64, Vec<u64>)>,
+    pub set: Vec<(u64, u8)>,
+    pub log: Vec<(u64, u8)>,
+    pub epoch: u64,
+    pub queues: Vec<QueueView>,
+}
+
+pub fn view() -> RevocationView {
+    let notice = |n: &RevocationNotification| (n.cap_id, n.revoked_at, n.reason);
+    RevocationView {
+        tree: DERIVATION_TREE.read().iter().map(|(&p, c)| (p, c.clone())).collect(),
+        set: REVOCATION_LIST.revoked.read().iter().copied().collect(),
+        log: REVOCATION_LIST.log.read().clone(),
+        epoch: REVOCATION_LIST.epoch(),
+        queues: REVOCATION_QUEUE
+            .read()
+            .iter()
+            .map(|(&pid, q)| QueueView { pid, notices: q.iter().map(notice).collect() })
+            .collect(),
+    }
+}
+
+/// Back to the state of a new process.
+pub fn reset() {
+    DERIVATION_TREE.write().clear();
+    REVOCATION_LIST.revoked.write().clear();
+    REVOCATION_LIST.log.write().clear();
+    REVOCATION_LIST.epoch.store(0, Ordering::SeqCst);
+    REVOCATION_QUEUE.write().clear();
+}
+
+/// Sets the epoch, so that a history can begin just below where it wraps.
+pub fn set_epoch(epoch: u64) {
+    REVOCATION_LIST.epoch.store(epoch, Ordering::SeqCst);
+}

@@ -1,0 +1,24 @@
+//! compare SUBJECT: the port, linked as its native static libraries, against the original.
+
+mod port;
+mod sound;
+mod table;
+mod token;
+
+use std::env;
+use std::process::ExitCode;
+
+use oracle::Tally;
+
+fn main() -> ExitCode {
+    let mut tally = Tally::default();
+    match env::args().nth(1).as_deref() {
+        Some("token") => token::compare(&mut tally),
+        Some("table") => table::compare(&mut tally),
+        _ => {
+            eprintln!("usage: compare token|table");
+            return ExitCode::from(2);
+        }
+    }
+    tally.finish()
+}

@@ -1,0 +1,26 @@
+//! The original, compiled unchanged: `cap::{token, space, manager, revocation}`.
+//!
+//! The crate's root plays the kernel's: the modules `error`, `security`, `services`, `arch` and
+//! `process`, and the lock of the crate `spin`, are the stubs that the four files import.
+
+extern crate alloc;
+// `use spin::RwLock` finds the lock here.
+extern crate self as spin;
+
+mod stubs;
+pub use stubs::{arch, error, process, security, services, RwLock};
+
+pub mod cap {
+    pub use crate::stubs::{inheritance, object, types};
+    include!(concat!(env!("OUT_DIR"), "/cap.rs"));
+}
+
+mod history;
+pub use history::{History, View};
+mod tally;
+pub use tally::{Tally, Test};
+
+pub mod arguments;
+#[cfg(feature = "port")]
+pub mod port_table;
+pub mod token_calls;
