@@ -95,14 +95,17 @@ impl PortTable {
         self.numbers[3]
     }
 
-    /// Removes the entry of slot `i`, which is full.
-    #[inline]
+    /// Removes the entry of slot `i`, if there is one.
     pub fn remove_at(&mut self, i: usize) -> Option<EntryView> {
-        debug_assert!(4 * i + 3 < self.length);
         let mut out = [0; 4];
-        let words = self.words.as_mut_ptr();
-        let there = unsafe { table_probe_remove_at(words, self.length, &mut self.numbers, i, &mut out) };
-        there.then(|| shown(out))
+        self.remove_into(i, &mut out).then(|| shown(out))
+    }
+
+    /// The same as the port has it: the entry over four words, and whether there was one.
+    #[inline]
+    pub fn remove_into(&mut self, i: usize, out: &mut [u64; 4]) -> bool {
+        debug_assert!(4 * i + 3 < self.length);
+        unsafe { table_probe_remove_at(self.words.as_mut_ptr(), self.length, &mut self.numbers, i, out) }
     }
 
     /// Becomes a copy of `source`, or of itself; the answer is how many entries were moved.

@@ -44,16 +44,19 @@ impl Tally {
 }
 
 impl Test {
-    /// One call with `arguments`: what was to be answered, and what was; says whether they are the same.
-    pub fn same<T: PartialEq + Debug>(&mut self, arguments: impl Debug, expected: T, answered: T) -> bool {
+    /// One call with `arguments`: what was to be answered, and what was.
+    pub fn same<T: PartialEq + Debug>(&mut self, arguments: impl Debug, expected: T, answered: T) {
         self.calls += 1;
-        let same = expected == answered;
-        if !same {
+        if expected != answered {
             self.differ += 1;
             if self.differ <= SHOWN {
                 println!("{} {arguments:x?}: expected {expected:x?}, answered {answered:x?}", self.name);
             }
         }
-        same
+    }
+
+    /// Some call so far was not answered the same.
+    pub fn differs(&self) -> bool {
+        self.differ > 0
     }
 }

@@ -45,7 +45,9 @@ impl Table for PortTable {
 
     fn remove(&mut self, id: u64) {
         let i = PortTable::find(self, id).at;
-        black_box(self.remove_at(i));
+        let mut out = [0; 4];
+        black_box(self.remove_into(i, &mut out));
+        black_box(&out);
     }
 }
 

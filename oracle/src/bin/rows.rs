@@ -63,18 +63,10 @@ fn rows_of_the_table(tally: &mut Tally) {
         insert(&mut two, 2);
         t.same("insert 2", true, matches!(two.view().slots[2], SlotView::Full(e) if e.token == 2));
     });
-    tally.test("P4", |t| {
-        t.same("sixth live entry", (8, 0), grown(5, 0));
-    });
-    tally.test("P5", |t| {
-        t.same("seventh", (16, 6), grown(6, 0));
-    });
-    tally.test("P6", |t| {
-        t.same("five live, one removed", (16, 5), grown(5, 1));
-    });
-    tally.test("P7", |t| {
-        t.same("one live, five removed", (8, 1), grown(1, 5));
-    });
+    tally.test("P4", |t| t.same("sixth live entry", (8, 0), grown(5, 0)));
+    tally.test("P5", |t| t.same("seventh", (16, 6), grown(6, 0)));
+    tally.test("P6", |t| t.same("five live, one removed", (16, 5), grown(5, 1)));
+    tally.test("P7", |t| t.same("one live, five removed", (8, 1), grown(1, 5)));
 }
 
 fn rows_of_the_world(tally: &mut Tally) {

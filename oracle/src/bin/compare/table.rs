@@ -90,7 +90,8 @@ impl Both {
         let good = port.is_sound() && port.behind_is_kept();
         let expected = (expected, original.counts(), differs.map(|i| (i, Some(original.slot(i)))), true);
         let answered = (answered, port.counts(), differs.map(|i| (i, port.slot(i))), good);
-        if !test.same(operation, expected, answered) {
+        test.same(operation, expected, answered);
+        if test.differs() {
             resume_unwind(Box::new(Apart));
         }
     }
