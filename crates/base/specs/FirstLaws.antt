@@ -111,6 +111,20 @@ from-next p n m t e h = rw (e, h)
 pub from-step : (p : ℕ → Bool) (n m t : ℕ) → n ≡ suc m → p t ≡ false → firstFrom p n t ≡ firstFrom p m (t + 1)
 from-step p n m t e h = rw add-one (from-next p n m t e h)
 
+-- Where 0 fails, it is one more than the first of the tests that follow.
+from-after : (p : ℕ → Bool) (n t : ℕ) → firstFrom p n (suc t) ≡ suc (firstFrom (λ k. p (suc k)) n t)
+unfolding firstFrom
+from-after p zero t = refl
+from-after p (suc n) t = go (p (suc t)) (from-after p n (suc t))
+  where
+    go : (b : Bool) {r s : ℕ} → r ≡ suc s → pick b (suc t) r ≡ suc (pick b t s)
+    go true e = refl
+    go false e = e
+
+pub first-after : (p : ℕ → Bool) (n : ℕ) → p 0 ≡ false → first p (n + 1) ≡ first (λ k. p (k + 1)) n + 1
+unfolding first
+first-after p n h = simp add-one (from-next p (suc n) n 0 refl h ∙ from-after p n 0)
+
 -- A loop that counts what is left down to 0, whose invariant is `r ≡ firstFrom p n t` for the answer r.
 pub first-down-found : (p : ℕ → Bool) (n t r : ℕ) → r ≡ firstFrom p n t → 0 < n → p t ≡ true → t ≡ r
 first-down-found p n t r e l h = sym (e ∙ from-here p n (n - 1) t (omega arith) h)

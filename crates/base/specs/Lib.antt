@@ -13,3 +13,4 @@ pub mod Arith
 pub mod Distinct
 pub mod Chain
 pub mod Place
+pub mod Listed

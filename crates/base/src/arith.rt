@@ -7,12 +7,23 @@ ghost use Rattle.base.specs.Arith.{nextPower};
 const BASE: u64 = 0x1_0000_0000;
 
 // a * b, keeping 64 bits: the schoolbook product of two digits by two, less what the product of the high ones adds.
-pub fn wrapping_mul(a: u64, b: u64) -> u64
+fn by_halves(a: u64, b: u64) -> u64
     ensures { λ r. ⌜ r ≡ (a * b) % 2 ^ 64 ⌝ }
 {
     let low = a % BASE * (b % BASE);
     let cross = a / BASE * (b % BASE) % BASE + a % BASE * (b / BASE) % BASE;
     (cross + low / BASE) % BASE * BASE + low % BASE
+}
+
+// The same product. Of a factor that is a constant the compiler would take the halves before it sees that all halves together make one
+// multiplication; it takes none for a constant that goes in on either side.
+pub fn wrapping_mul(a: u64, b: u64) -> u64
+    ensures { λ r. ⌜ r ≡ (a * b) % 2 ^ 64 ⌝ }
+{
+    if a < b {
+        return by_halves(b, a);
+    }
+    by_halves(a, b)
 }
 
 // The least power of two at or above n: one bit more than n - 1 has.

@@ -86,8 +86,8 @@ pub fn place_of(xs: &[u64], heads: &[u16], prevs: &[u16], word: u64) -> Place
     Place::At(at - 1)
 }
 
-// Whether no two words of xs are equal. A short list has a small index, since to clear the large one takes longer than to go along the
-// list.
+// Whether no two words of xs are equal. There are at least four buckets to a word, so that most words are the first of theirs. A short
+// list has a small index, since to clear the large one takes longer than to go along the list.
 pub fn distinct(xs: &[u64]) -> bool
     requires { ⌜ length (now xs) ≤ 8192 ⌝ }
     ensures { λ r. ⌜ r ≡ allDifferent (now (xs .entry)) ⌝ }
@@ -96,11 +96,11 @@ pub fn distinct(xs: &[u64]) -> bool
         return true;
     }
     if xs.len() <= 512 {
-        let mut heads = [0u16; 512];
+        let mut heads = [0u16; 2048];
         let mut prevs = [0u16; 512];
         return index(xs, &mut heads, &mut prevs);
     }
-    let mut heads = [0u16; 8192];
+    let mut heads = [0u16; 65536];
     let mut prevs = [0u16; 8192];
     index(xs, &mut heads, &mut prevs)
 }
