@@ -1,19 +1,23 @@
 -- The turns of the loops that walk: where a walk stands after one step more, and what is left to count at each step.
-use mathlib.Core.Path.{_≡_, sym, ap, _∙_}
+use mathlib.Core.Path.{_≡_, refl, sym, ap, _∙_}
 use mathlib.Core.List.{List}
 use mathlib.Core.Bool.{Bool, true, false, not}
-use Prim.Native.Nat.{ℕ, _+_, _-_, _%_, _<_, _≤_}
+use mathlib.Core.Logic.{by-cases}
+use Prim.Native.Nat.{ℕ, suc, _+_, _-_, _%_, _<_, _≤_}
+use native.Mathlib.Nat.{sub-zero, add-zero, add-comm, mod-eq-of-lt, mod-add-mod}
+use native.Mathlib.Decide.{decLt}
 use native.Mathlib.Omega.{arith}
 use borrow.Author.Needs.{needs}
-use borrow.Author.Tests.{ne-eqb}
+use borrow.Author.Tests.{ne-eqb, lt-ltb, le-ltb}
 use lib.Dec.{eqb}
 use Rattle.base.specs.Choose.{pick, both, both-left, both-right}
-use Rattle.base.specs.Below.{firstFrom}
-use Rattle.base.specs.FirstLaws.{first-up-start, first-up-found, first-up-next, first-up-done}
+use Rattle.base.specs.Below.{firstFrom, first}
+use Rattle.base.specs.FirstLaws.{first-is, first-after, first-up-start, first-up-found, first-up-next, first-up-done}
 use Rattle.table.specs.Slots.{kindAt, isEmpty, isLive, idAt}
-use Rattle.table.specs.Walk.{homeOf, walk, stops, stepsToStop, search, stepsToFree, freeFor}
+use Rattle.table.specs.Walk.{homeOf, walk, stops, stepsToStop, ended, search, searchFrom, stepsToFree, freeFor}
 use Rattle.table.specs.declared.Found.the-variants.{At, Absent}
-use Rattle.table.proofs.laws.Walks.{walk-home, walk-next, search-stops, search-runs-out}
+use Rattle.table.specs.declared.Search.{Search}
+use Rattle.table.proofs.laws.Walks.{walk-home, walk-next}
 
 -- ---- where a walk stands
 
@@ -25,94 +29,121 @@ walk-steps id slots t i j e f = f ∙ ap (λ n. (n + 1) % slots) e ∙ sym (walk
 
 -- ---- the search
 
-abbrev stopsAt : List ℕ → ℕ → ℕ → ℕ → Bool
-stopsAt ws slots id t = stops ws id (walk id slots t)
-
--- The steps to stop, counted on from step t.
-unfoldable pub stopFrom : List ℕ → ℕ → ℕ → ℕ → ℕ
-stopFrom ws slots id t = firstFrom (stopsAt ws slots id) (slots - t) t
-
--- Slot i is live and has the id.
-abbrev hasId : List ℕ → ℕ → ℕ → Bool
-hasId ws id i = both (isLive ws i) (eqb (idAt ws i) id)
-
-found-stops : (ws : List ℕ) (id i : ℕ) → hasId ws id i ≡ true → stops ws id i ≡ true
-found-stops ws id i h = rw (both-left (isLive ws i) (eqb (idAt ws i) id) h) (both-right (isLive ws i) (eqb (idAt ws i) id) h)
-
 -- A slot that is passed: it has not the id, and is not empty.
-pub passed-on :
-    (ws : List ℕ) (id i k : ℕ) (b : Bool) → b ≡ hasId ws id i → b ≡ false → k ≡ kindAt ws i → ¬ (k ≡ 0) → stops ws id i ≡ false
-passed-on ws id i k b e no′ kind d = go (isLive ws i) (sym e ∙ no′)
+passed-on :
+    (ws : List ℕ) (id i k : ℕ) (b : Bool) → k ≡ kindAt ws i → b ≡ both (eqb k 2) (eqb (idAt ws i) id) → b ≡ false → ¬ (k ≡ 0)
+    → stops ws id i ≡ false
+passed-on ws id i k b kind e no′ some = rw (← kind) (go (eqb k 2) (sym e ∙ no′))
   where
-    go : (c : Bool) → both c (eqb (idAt ws i) id) ≡ false → pick c (eqb (idAt ws i) id) (isEmpty ws i) ≡ false
+    go : (c : Bool) → both c (eqb (idAt ws i) id) ≡ false → pick c (eqb (idAt ws i) id) (eqb k 0) ≡ false
     go true h = h
-    go false h = rw (← kind, ne-eqb k 0 d)
+    go false h = ne-eqb k 0 some
 
-module _ (ws : List ℕ) (slots id : ℕ) where
-  pub find-starts : stepsToStop ws slots id ≡ stopFrom ws slots id 0
-  unfolding stepsToStop stopFrom
-  find-starts = first-up-start (stopsAt ws slots id) slots
+-- What a search answers that begins after p visits.
+unfoldable pub later : ℕ → Search → Search
+later p s = record { found = s .found; visits = s .visits + p }
 
-  -- The visit v, after v - 1 steps, is to slot i.
-  module _ (v i : ℕ) (pos : 0 < v) (left : stepsToStop ws slots id ≡ stopFrom ws slots id (v - 1)) (w : i ≡ walk id slots (v - 1)) where
-    back : v - 1 + 1 ≡ v
-    back = omega arith
+later-later : (p : ℕ) (s : Search) → later p (later 1 s) ≡ later (p + 1) s
+unfolding later
+later-later p s = ap (λ v. record { found = s .found; visits = v }) (omega arith)
 
-    stopped : v ≤ slots → stops ws id i ≡ true → search ws slots id ≡ record { found = pick (isLive ws i) (At i) Absent; visits = v }
-    unfolding stopFrom
-    stopped l s =
-        let under : v - 1 < slots = omega arith in
-        let here = first-up-found (stopsAt ws slots id) slots (v - 1) (stepsToStop ws slots id) left under (rw (← w) s) in
-        search-stops ws slots id (v - 1) (sym here) under ∙ rw (← w, back)
+-- One step more, of one slot more.
+ended-later : (ws : List ℕ) (n t i : ℕ) → ended ws (n + 1) (t + 1) i ≡ later 1 (ended ws n t i)
+unfolding later
+ended-later ws n t i =
+    by-cases (decLt t n)
+    (λ l. rw (lt-ltb t n l, lt-ltb (t + 1) (n + 1) (omega arith)))
+    (λ g. rw (le-ltb t n (omega arith), le-ltb (t + 1) (n + 1) (omega arith)))
 
-    pub find-found : (b : Bool) → v ≤ slots → b ≡ hasId ws id i → b ≡ true → record { found = At i; visits = v } ≡ search ws slots id
-    find-found b l e yes′ =
-        let has : hasId ws id i ≡ true = sym e ∙ yes′ in
-        sym (stopped l (found-stops ws id i has) ∙ rw (both-left (isLive ws i) (eqb (idAt ws i) id) has))
+from-none : (ws : List ℕ) (slots id i : ℕ) → searchFrom ws slots id i 0 ≡ record { found = Absent; visits = 0 }
+unfolding searchFrom first firstFrom
+from-none ws slots id i = refl
 
-    pub find-empty : (k : ℕ) → v ≤ slots → k ≡ kindAt ws i → k ≡ 0 → record { found = Absent; visits = v } ≡ search ws slots id
-    find-empty k l kind none = sym (stopped l (rw (← kind, none)) ∙ rw (← kind, none))
+-- The search from slot i on, over one slot and n more, stops there or goes on with the next slot.
+module _ (ws : List ℕ) (slots id i n : ℕ) (l : i < slots) where
+  here : (i + 0) % slots ≡ i
+  here = rw add-zero (mod-eq-of-lt l)
 
-    pub find-goes : v ≤ slots → stops ws id i ≡ false → stepsToStop ws slots id ≡ stopFrom ws slots id (v + 1 - 1)
-    unfolding stopFrom
-    find-goes l passed =
-        let same : v + 1 - 1 ≡ v - 1 + 1 = omega arith in
-        rw same (first-up-next (stopsAt ws slots id) slots (v - 1) (stepsToStop ws slots id) left (omega arith) (rw (← w) passed))
+  from-stops : stops ws id i ≡ true → searchFrom ws slots id i (n + 1) ≡ record { found = pick (isLive ws i) (At i) Absent; visits = 1 }
+  unfolding searchFrom
+  from-stops s =
+      let none = first-is (λ t. stops ws id ((i + t) % slots)) (n + 1) 0 (omega arith) (rw here s) (λ k u. absurd (omega arith)) in
+      rw (none, lt-ltb 0 (n + 1) (omega arith), here)
 
-    pub find-steps : (j : ℕ) → j ≡ (i + 1) % slots → j ≡ walk id slots (v + 1 - 1)
-    find-steps j e =
-        let same : v + 1 - 1 ≡ v - 1 + 1 = omega arith in
-        rw same (walk-steps id slots (v - 1) i j w e)
+  from-passes : stops ws id i ≡ false → searchFrom ws slots id i (n + 1) ≡ later 1 (searchFrom ws slots id ((i + 1) % slots) n)
+  unfolding searchFrom
+  from-passes passed =
+      let next : (t : ℕ) → (i + (t + 1)) % slots ≡ ((i + 1) % slots + t) % slots = λ t. rw mod-add-mod (ap (λ x. x % slots) (omega arith)) in
+      let steps = simp next at (first-after (λ t. stops ws id ((i + t) % slots)) n (rw here passed)) in
+      rw (steps, next, ended-later)
 
-  pub find-ends :
-      (v : ℕ) → stepsToStop ws slots id ≡ stopFrom ws slots id (v - 1) → v ≤ slots + 1 → slots < v
-      → record { found = Absent; visits = slots } ≡ search ws slots id
-  unfolding stopFrom
-  find-ends v left le past =
-      let all : v - 1 ≡ slots = omega arith in
-      let here = first-up-done (stopsAt ws slots id) slots (v - 1) (stepsToStop ws slots id) left (omega arith) in
-      sym (search-runs-out ws slots id slots (sym here ∙ all) (omega arith))
+-- A search over n slots with the answer s goes on at slot i, after `passed` visits.
+module _ (ws : List ℕ) (slots id n passed i : ℕ) (s : Search) (left : s ≡ later passed (searchFrom ws slots id i (n - passed))) (l : i < slots)
+  where
+    module _ (more : passed < n) (k : ℕ) (kind : k ≡ kindAt ws i) where
+      one-more : n - (passed + 1) + 1 ≡ n - passed
+      one-more = omega arith
+
+      stopped : stops ws id i ≡ true → record { found = pick (eqb k 2) (At i) Absent; visits = passed + 1 } ≡ s
+      unfolding later
+      stopped h = sym (left ∙ rw (← one-more, from-stops ws slots id i (n - (passed + 1)) l h, ← kind, add-comm 1 passed))
+
+      pub find-found : (b : Bool) → b ≡ both (eqb k 2) (eqb (idAt ws i) id) → b ≡ true → record { found = At i; visits = passed + 1 } ≡ s
+      find-found b e yes′ =
+          let two = both-left (eqb k 2) (eqb (idAt ws i) id) (sym e ∙ yes′) in
+          let same = both-right (eqb k 2) (eqb (idAt ws i) id) (sym e ∙ yes′) in
+          rw two at (stopped (rw (← kind, two) same))
+
+      pub find-empty : k ≡ 0 → record { found = Absent; visits = passed + 1 } ≡ s
+      find-empty none = rw none at (stopped (rw (← kind, none)))
+
+      pub find-goes :
+          (b : Bool) (j : ℕ) → b ≡ both (eqb k 2) (eqb (idAt ws i) id) → b ≡ false → ¬ (k ≡ 0) → j ≡ (i + 1) % slots
+          → s ≡ later (passed + 1) (searchFrom ws slots id j (n - (passed + 1)))
+      find-goes b j e no′ some next =
+          let passes = passed-on ws id i k b kind e no′ some in
+          left ∙ rw (← one-more, from-passes ws slots id i (n - (passed + 1)) l passes, ← next, later-later)
+
+    pub find-ends : passed ≤ n → n ≤ passed → record { found = Absent; visits = n } ≡ s
+    unfolding later
+    find-ends u past =
+        let none : n - passed ≡ 0 = omega arith in
+        let all : 0 + passed ≡ n = omega arith in
+        sym (left ∙ rw (none, from-none ws slots id i, all))
+
+pub find-starts : (ws : List ℕ) (slots id i n : ℕ) → searchFrom ws slots id i n ≡ later 0 (searchFrom ws slots id i (n - 0))
+unfolding later
+find-starts ws slots id i n = rw (sub-zero, add-zero)
+
+pub ruleset find-laws = (find-starts, find-found, find-empty, find-goes, find-ends, needs)
+
+-- The search is the one over all slots from home on.
+from-home : (ws : List ℕ) (slots id : ℕ) → search ws slots id ≡ searchFrom ws slots id (homeOf id slots) slots
+unfolding search stepsToStop walk searchFrom
+from-home ws slots id = refl
 
 pub find-none : (ws : List ℕ) (slots id : ℕ) → slots ≡ 0 → record { found = Absent; visits = 0 } ≡ search ws slots id
-find-none ws slots id e = rw e (find-ends ws 0 id 1 (find-starts ws 0 id) (omega arith) (omega arith))
+find-none ws slots id e = rw (e, from-home, from-none)
 
--- The first visit is to home.
 module _ (ws : List ℕ) (slots id i : ℕ) (home : i ≡ homeOf id slots) where
-  pub home-found : (b : Bool) → ¬ (slots ≡ 0) → b ≡ hasId ws id i → b ≡ true → record { found = At i; visits = 1 } ≡ search ws slots id
-  home-found b some = find-found ws slots id 1 i (omega arith) (find-starts ws slots id) (walk-starts id slots i home) b (omega arith)
+  home-starts : search ws slots id ≡ later 0 (searchFrom ws slots id i (slots - 0))
+  home-starts = rw (from-home, ← home) (find-starts ws slots id i slots)
 
-  pub home-empty : (k : ℕ) → ¬ (slots ≡ 0) → k ≡ kindAt ws i → k ≡ 0 → record { found = Absent; visits = 1 } ≡ search ws slots id
-  home-empty k some = find-empty ws slots id 1 i (omega arith) (find-starts ws slots id) (walk-starts id slots i home) k (omega arith)
+  module _ (l : i < slots) (k : ℕ) (kind : k ≡ kindAt ws i) where
+    pub home-found : (b : Bool) → b ≡ both (eqb k 2) (eqb (idAt ws i) id) → b ≡ true → record { found = At i; visits = 1 } ≡ search ws slots id
+    home-found = find-found ws slots id slots 0 i (search ws slots id) home-starts l (omega arith) k kind
 
-  pub home-passed : i < slots → stops ws id i ≡ false → stepsToStop ws slots id ≡ stopFrom ws slots id 1
-  home-passed l = find-goes ws slots id 1 i (omega arith) (find-starts ws slots id) (walk-starts id slots i home) (omega arith)
+    pub home-empty : k ≡ 0 → record { found = Absent; visits = 1 } ≡ search ws slots id
+    home-empty = find-empty ws slots id slots 0 i (search ws slots id) home-starts l (omega arith) k kind
 
-  pub home-steps : (j : ℕ) → j ≡ (i + 1) % slots → j ≡ walk id slots 1
-  home-steps j e = walk-steps id slots 0 i j (walk-starts id slots i home) e
+    pub home-goes :
+        (b : Bool) (j : ℕ) (rest : Search) → b ≡ both (eqb k 2) (eqb (idAt ws i) id) → b ≡ false → ¬ (k ≡ 0) → j ≡ (i + 1) % slots
+        → rest ≡ searchFrom ws slots id j (slots - 1) → record { found = rest .found; visits = rest .visits + 1 } ≡ search ws slots id
+    unfolding later
+    home-goes b j rest e no′ some next answer =
+        sym (find-goes ws slots id slots 0 i (search ws slots id) home-starts l (omega arith) k kind b j e no′ some next ∙ rw (← answer))
 
-pub ruleset home-laws = (find-none, home-found, home-empty, passed-on, needs)
-
-pub ruleset find-laws = (home-passed, home-steps, passed-on, find-goes, find-steps, find-found, find-empty, find-ends, needs)
+pub ruleset home-laws = (find-none, home-found, home-empty, home-goes, needs)
 
 -- ---- the walk for a free place
 

@@ -3,5 +3,6 @@ pub mod laws
 pub mod CodeSlots
 pub mod CodeWalk
 pub mod CodeRebuild
+pub mod CodeInsert
 pub mod CodeCopy
 pub mod CodeTests

@@ -91,13 +91,15 @@ pub record Placeable (ws : List ℕ) (t : CapTable) : Type 0 where
   pub few-live : t .full ≤ 512
   pub held : 4 * t .slots ≤ length ws
 
-unfoldable pub madeRoom : List ℕ → CapTable → Table
-madeRoom ws t =
+-- The table rebuilt with room for one entry more.
+abbrev pub enlarged : List ℕ → CapTable → Table
+enlarged ws t =
     let n = roomFor (t .full) in
     let live = length (liveEntries ws 0 (t .slots)) in
-    pick (crowded t)
-    (record { words = rebuilt ws (t .slots) n; counts = record { slots = n; full = live; tombstones = 0 }; moved = live })
-    (record { words = ws; counts = t; moved = 0 })
+    record { words = rebuilt ws (t .slots) n; counts = record { slots = n; full = live; tombstones = 0 }; moved = live }
+
+unfoldable pub madeRoom : List ℕ → CapTable → Table
+madeRoom ws t = pick (crowded t) (enlarged ws t) (record { words = ws; counts = t; moved = 0 })
 
 -- Then place at the first slot not live; a removed mark there is used up.
 unfoldable pub placed : Table → CapabilityEntry → Table

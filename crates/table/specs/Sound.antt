@@ -8,6 +8,7 @@ use lib.Dec.{eqb, leb}
 use Rattle.base.specs.Arith.{nextPower}
 use Rattle.base.specs.Below.{all, sum, one}
 use Rattle.base.specs.Choose.{pick, both}
+use Rattle.base.specs.Listed.{listed}
 use Rattle.table.specs.Slots.{kindAt, isEmpty, isRemoved, isLive, idAt}
 use Rattle.table.specs.Walk.{walk, search}
 use Rattle.table.specs.Insert.{slotsFor}
@@ -68,8 +69,11 @@ abbrev pub endsAt : Found → ℕ → Bool
 endsAt (At i) j = eqb i j
 endsAt Absent j = false
 
+abbrev pub endsHere : List ℕ → ℕ → ℕ → Bool
+endsHere ws slots i = endsAt (search ws slots (idAt ws i) .found) i
+
 abbrev pub foundAt : List ℕ → ℕ → ℕ → Bool
-foundAt ws slots i = pick (isLive ws i) (endsAt (search ws slots (idAt ws i) .found) i) true
+foundAt ws slots i = pick (isLive ws i) (endsHere ws slots i) true
 
 abbrev pub foundTest : List ℕ → ℕ → Bool
 foundTest ws slots = all slots (λ i. foundAt ws slots i)
@@ -79,3 +83,7 @@ soundTest most ws t =
     both (codedTest ws (t .slots))
     (both (capacityTest most (t .slots))
     (both (countsTest ws t) (both (roomTest t) (both (unusedTest t) (both (withinTest most t) (foundTest ws (t .slots)))))))
+
+-- The numbers of the live ones of the first n slots, over what stood there: the look lists them first, and searches then.
+unfoldable pub liveSlots : List ℕ → ℕ → List ℕ → List ℕ
+liveSlots ws n xs = listed (λ i. i) (isLive ws) n xs

@@ -28,13 +28,18 @@ stops ws id i = pick (isLive ws i) (eqb (idAt ws i) id) (isEmpty ws i)
 unfoldable pub stepsToStop : List ℕ → ℕ → ℕ → ℕ
 stepsToStop ws slots id = first (λ t. stops ws id (walk id slots t)) slots
 
--- The search: where it ended, and its visits. On 0 slots it visits none.
+-- Where a search over n slots ended, and its visits: it takes t steps to stop, at slot i, or does not stop.
+abbrev pub ended : List ℕ → ℕ → ℕ → ℕ → Search
+ended ws n t i =
+    pick (ltb t n) (record { found = pick (isLive ws i) (At i) Absent; visits = t + 1 }) (record { found = Absent; visits = t })
+
+-- The search. On 0 slots it visits none.
 unfoldable pub search : List ℕ → ℕ → ℕ → Search
-search ws slots id =
-    let t = stepsToStop ws slots id in
-    pick (ltb t slots)
-    (record { found = pick (isLive ws (walk id slots t)) (At (walk id slots t)) Absent; visits = t + 1 })
-    (record { found = Absent; visits = t })
+search ws slots id = let t = stepsToStop ws slots id in ended ws slots t (walk id slots t)
+
+-- The search over n slots only, and from slot i on instead of home.
+unfoldable pub searchFrom : List ℕ → ℕ → ℕ → ℕ → ℕ → Search
+searchFrom ws slots id i n = let t = first (λ t. stops ws id ((i + t) % slots)) n in ended ws n t ((i + t) % slots)
 
 -- The entry of the slot where the search ended.
 abbrev pub gotAt : List ℕ → Found → Got

@@ -10,7 +10,9 @@ use super::CapabilityEntry;
 use super::Inserted;
 use super::Nth;
 use super::Slot;
-use super::insert::insert_new;
+use super::insert::crowded;
+use super::insert::make_room;
+use super::insert::place;
 use super::words::entry_at;
 use super::words::slot_at;
 
@@ -48,13 +50,14 @@ fn copy_entry(words: &mut [u64], s: Inserted, entry: CapabilityEntry) -> Inserte
         rights,
         uses: 0,
     };
-    let table = s.table;
-    let t = insert_new(words, table, fresh);
-    let after = t.table;
-    Inserted {
-        table: after,
-        moved: s.moved + t.moved,
+    let t = s.table;
+    if crowded(t) {
+        let room = make_room(words, t);
+        let table = room.table;
+        let moved = s.moved + room.moved;
+        return place(words, Inserted { table, moved }, fresh);
     }
+    place(words, s, fresh)
 }
 
 // A table of the scratch's first `count` entries, over whatever the words held.

@@ -4,7 +4,7 @@ ghost use Prim.Native.Nat.{_+_, _-_, _*_, _≤_, _<_};
 ghost use lib.ListN.{length};
 ghost use Rattle.base.specs.Below.{one};
 ghost use Rattle.table.specs.Slots.{idOf, isRemoved};
-ghost use Rattle.table.specs.Insert.{crowded as isCrowded, slotsFor, roomFor, emptied, holds, gathered, listed, liveEntries, placeAll, rebuilt, madeRoom, placed, insertNew, leaves, Insertable, Placeable};
+ghost use Rattle.table.specs.Insert.{crowded as isCrowded, slotsFor, roomFor, emptied, holds, gathered, listed, liveEntries, placeAll, rebuilt, enlarged, placed, insertNew, leaves, Insertable, Placeable};
 use super::CapTable;
 use super::CapabilityEntry;
 use super::Inserted;
@@ -23,7 +23,7 @@ fn id_of(entry: CapabilityEntry) -> u64
 }
 
 // True where one entry more would leave more than 3/4 of the slots in use, removed ones counted: every walk is to meet an empty slot.
-fn crowded(t: CapTable) -> bool
+pub fn crowded(t: CapTable) -> bool
     requires { ⌜ (t .slots ≤ 512) × (t .full ≤ 512) × (t .tombstones ≤ 512) ⌝ }
     ensures { λ r. ⌜ r ≡ isCrowded t ⌝ }
 {
@@ -109,6 +109,10 @@ fn rebuild(words: &mut [u64], slots: usize, n: usize) -> usize
     ensures { λ r. ⌜ now (words .exit) ≡ rebuilt (now (words .entry)) slots n ⌝ }
     ensures { λ r. ⌜ (r ≡ length (liveEntries (now (words .entry)) 0 slots)) × (r ≤ slots) ⌝ }
 {
+    if slots == 0 {
+        empty_slots(words, n);
+        return 0;
+    }
     let mut scratch = [0u64; 2048];
     let count = gather(words, slots, &mut scratch);
     empty_slots(words, n);
@@ -116,26 +120,22 @@ fn rebuild(words: &mut [u64], slots: usize, n: usize) -> usize
     count
 }
 
-// Room for one entry more: a rebuild, if the table is crowded.
-fn make_room(words: &mut [u64], t: CapTable) -> Inserted
+// Room for one entry more, in a crowded table.
+pub fn make_room(words: &mut [u64], t: CapTable) -> Inserted
     requires { ⌜ Insertable (now words) t ⌝ }
-    ensures { λ r. ⌜ leaves (now (words .exit)) r ≡ madeRoom (now (words .entry)) t ⌝ }
-    ensures { λ r. ⌜ Placeable (now (words .exit)) (r .table) ⌝ }
+    ensures { λ r. ⌜ leaves (now (words .exit)) r ≡ enlarged (now (words .entry)) t ⌝ }
+    ensures { λ r. ⌜ Placeable (now (words .exit)) (r .table) × (r .moved ≤ 512) ⌝ }
 {
-    let full = t.full;
-    if crowded(t) {
-        let n = room_for(full);
-        let moved = rebuild(words, t.slots, n);
-        return Inserted {
-            table: CapTable {
-                slots: n,
-                full: moved,
-                tombstones: 0,
-            },
-            moved,
-        };
+    let n = room_for(t.full);
+    let moved = rebuild(words, t.slots, n);
+    Inserted {
+        table: CapTable {
+            slots: n,
+            full: moved,
+            tombstones: 0,
+        },
+        moved,
     }
-    Inserted { table: t, moved: 0 }
 }
 
 // The removed marks that are left when an entry is placed in slot i.
@@ -152,7 +152,7 @@ fn marks_left(words: &[u64], i: usize, tombstones: usize) -> usize
     tombstones - 1
 }
 
-fn place(words: &mut [u64], s: Inserted, entry: CapabilityEntry) -> Inserted
+pub fn place(words: &mut [u64], s: Inserted, entry: CapabilityEntry) -> Inserted
     requires { ⌜ Placeable (now words) (s .table) ⌝ }
     ensures { λ r. ⌜ leaves (now (words .exit)) r ≡ placed (leaves (now (words .entry)) s) entry ⌝ }
 {
@@ -175,6 +175,9 @@ pub fn insert_new(words: &mut [u64], t: CapTable, entry: CapabilityEntry) -> Ins
     requires { ⌜ Insertable (now words) t ⌝ }
     ensures { λ r. ⌜ leaves (now (words .exit)) r ≡ insertNew (now (words .entry)) t entry ⌝ }
 {
-    let s = make_room(words, t);
-    place(words, s, entry)
+    if crowded(t) {
+        let s = make_room(words, t);
+        return place(words, s, entry);
+    }
+    place(words, Inserted { table: t, moved: 0 }, entry)
 }

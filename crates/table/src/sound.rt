@@ -1,13 +1,14 @@
-// Whether a table is sound: document 01's rules of one table, with one pass over its slots.
+// Whether a table is sound: document 01's rules of one table, with a pass over its slots and a search of each live one's id.
+ghost use mathlib.Core.Bool.{true};
 ghost use mathlib.Core.Path.{_≡_};
 ghost use Prim.Native.Nat.{_+_, _*_, _≤_, _<_};
-ghost use lib.Dec.{eqb};
-ghost use lib.ListN.{length};
-ghost use Rattle.base.specs.Below.{one};
+ghost use lib.Dec.{eqb, ltb};
+ghost use lib.ListN.{length, getD};
+ghost use Rattle.base.specs.Below.{all, one};
 ghost use Rattle.base.specs.Choose.{both};
 ghost use Rattle.table.specs.Slots.{kindAt};
 ghost use Rattle.table.specs.Insert.{slotsFor};
-ghost use Rattle.table.specs.Sound.{endsAt, codedAt, foundAt, codedTest, capacityTest, countsTest, roomTest, unusedTest, withinTest, foundTest, soundTest};
+ghost use Rattle.table.specs.Sound.{endsAt, endsHere, codedAt, codedTest, capacityTest, countsTest, roomTest, unusedTest, withinTest, foundTest, liveSlots, soundTest};
 use super::CapTable;
 use super::Found;
 use super::insert::slots_for;
@@ -61,18 +62,11 @@ fn ends_at(found: Found, i: usize) -> bool
     }
 }
 
-// A listed kind, and a live slot is where the search of its id ends.
-fn slot_sound(words: &[u64], slots: usize, i: usize) -> bool
+// The search of the id in slot i ends at slot i.
+fn is_found(words: &[u64], slots: usize, i: usize) -> bool
     requires { ⌜ (slots ≤ 512) × (4 * slots ≤ length (now words)) × (i < slots) ⌝ }
-    ensures { λ r. ⌜ r ≡ both (codedAt (now (words .entry)) i) (foundAt (now (words .entry)) slots i) ⌝ }
+    ensures { λ r. ⌜ r ≡ endsHere (now (words .entry)) slots i ⌝ }
 {
-    let kind = kind_at(words, i);
-    if 2 < kind {
-        return false;
-    }
-    if kind != 2 {
-        return true;
-    }
     let found = find(words, slots, id_at(words, i)).found;
     ends_at(found, i)
 }
@@ -88,27 +82,80 @@ fn one_of(words: &[u64], i: usize, kind: u64) -> usize
     0
 }
 
-// The slots, one by one, and against the counts.
+// 1 for a slot of a listed kind, 0 for any other.
+fn one_coded(words: &[u64], i: usize) -> usize
+    requires { ⌜ (i < 512) × (4 * i + 3 < length (now words)) ⌝ }
+    ensures { λ r. ⌜ (r ≡ one (codedAt (now (words .entry)) i)) × (r ≤ 1) ⌝ }
+{
+    if kind_at(words, i) <= 2 {
+        return 1;
+    }
+    0
+}
+
+// Whether the kinds are listed ones and agree with the counts. The numbers of the live slots are written one after the other: kinds
+// follow no pattern, and a search in this loop, which would branch by them, would be foretold wrongly every other time.
+fn kinds_sound(words: &[u64], t: CapTable, live: &mut [u16; 512]) -> bool
+    requires { ⌜ (t .slots ≤ 512) × (4 * t .slots ≤ length (now words)) ⌝ }
+    ensures { λ r. ⌜ r ≡ both (codedTest (now (words .entry)) (t .slots)) (countsTest (now (words .entry)) t) ⌝ }
+    ensures { λ r. ⌜ now (live .exit) ≡ liveSlots (now (words .entry)) (t .slots) (now (live .entry)) ⌝ }
+{
+    let slots = t.slots;
+    let mut n = 0;
+    let mut removed = 0;
+    let mut coded = 0;
+    let mut i = 0;
+    while i < slots {
+        live[n] = i as u16;
+        n += one_of(words, i, 2);
+        removed += one_of(words, i, 1);
+        coded += one_coded(words, i);
+        i += 1;
+    }
+    if coded != slots {
+        return false;
+    }
+    if n != t.full {
+        return false;
+    }
+    removed == t.tombstones
+}
+
+// A place as an index.
+fn wide(place: u16) -> usize
+    ensures { λ r. ⌜ r ≡ place ⌝ }
+{
+    place as usize
+}
+
+// The search of the id in each of these slots ends at that slot.
+fn all_found(words: &[u64], slots: usize, live: &[u16]) -> bool
+    requires { ⌜ (slots ≤ 512) × (4 * slots ≤ length (now words)) ⌝ }
+    requires { ⌜ all (length (now live)) (λ j. ltb (getD (now live) j 0) slots) ≡ true ⌝ }
+    ensures { λ r. ⌜ r ≡ all (length (now (live .entry))) (λ j. endsHere (now (words .entry)) slots (getD (now (live .entry)) j 0)) ⌝ }
+{
+    let mut j = 0;
+    while j < live.len() {
+        if is_found(words, slots, wide(live[j])) {
+            j += 1;
+        } else {
+            return false;
+        }
+    }
+    true
+}
+
+// The slots, against the counts and one by one.
 fn slots_sound(words: &[u64], t: CapTable) -> bool
     requires { ⌜ (t .slots ≤ 512) × (4 * t .slots ≤ length (now words)) ⌝ }
     ensures { λ r. ⌜ r ≡ both (codedTest (now (words .entry)) (t .slots)) (both (countsTest (now (words .entry)) t) (foundTest (now (words .entry)) (t .slots))) ⌝ }
 {
-    let slots = t.slots;
-    let mut live = 0;
-    let mut removed = 0;
-    let mut i = 0;
-    while i < slots {
-        if !slot_sound(words, slots, i) {
-            return false;
-        }
-        live += one_of(words, i, 2);
-        removed += one_of(words, i, 1);
-        i += 1;
-    }
-    if live != t.full {
+    let mut live = [0u16; 512];
+    if !kinds_sound(words, t, &mut live) {
         return false;
     }
-    removed == t.tombstones
+    let n = t.full;
+    all_found(words, t.slots, &live[..n])
 }
 
 // The capacity comes first: it keeps everything after it in range.

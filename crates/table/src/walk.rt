@@ -1,12 +1,11 @@
 // Walks over the slots: the search for an id, and the walk for a free place.
-ghost use mathlib.Core.Bool.{false};
 ghost use mathlib.Core.Path.{_≡_};
 ghost use Prim.Native.Nat.{_+_, _*_, _%_, _≤_, _<_};
 ghost use lib.Dec.{eqb};
 ghost use lib.ListN.{length};
 ghost use Rattle.base.specs.Choose.{both};
-ghost use Rattle.table.specs.Slots.{isLive, idAt};
-ghost use Rattle.table.specs.Walk.{homeOf, stops, search, got, freeFor};
+ghost use Rattle.table.specs.Slots.{idAt};
+ghost use Rattle.table.specs.Walk.{homeOf, search, searchFrom, got, freeFor};
 use super::Found;
 use super::Got;
 use super::Search;
@@ -39,44 +38,44 @@ pub fn next(i: usize, slots: usize) -> usize
     up
 }
 
-// Slot i is live and has that id.
-fn has_id(words: &[u64], i: usize, id: u64) -> bool
+// Slot i, which is of that kind, is live and has that id.
+fn has_id(words: &[u64], i: usize, kind: u64, id: u64) -> bool
     requires { ⌜ (i < 512) × (4 * i + 3 < length (now words)) ⌝ }
-    ensures { λ r. ⌜ r ≡ both (isLive (now (words .entry)) i) (eqb (idAt (now (words .entry)) i) id) ⌝ }
+    ensures { λ r. ⌜ r ≡ both (eqb kind 2) (eqb (idAt (now (words .entry)) i) id) ⌝ }
 {
-    if kind_at(words, i) == 2 {
+    if kind == 2 {
         return id_at(words, i) == id;
     }
     false
 }
 
-// The search goes on past home, where it did not stop.
-fn find_on(words: &[u64], slots: usize, id: u64, home: usize) -> Search
-    requires { ⌜ (slots ≤ 512) × (4 * slots ≤ length (now words)) × (home < slots) ⌝ }
-    requires { ⌜ (home ≡ homeOf id slots) × (stops (now words) id home ≡ false) ⌝ }
-    ensures { λ r. ⌜ r ≡ search (now (words .entry)) slots id ⌝ }
+// The search over n slots from slot `from` on.
+fn find_from(words: &[u64], slots: usize, id: u64, from: usize, n: usize) -> Search
+    requires { ⌜ (slots ≤ 512) × (4 * slots ≤ length (now words)) × (from < slots) × (n ≤ slots) ⌝ }
+    ensures { λ r. ⌜ (r ≡ searchFrom (now (words .entry)) slots id from n) × (r .visits ≤ n) ⌝ }
 {
-    let mut i = next(home, slots);
-    let mut visits = 2;
-    while visits <= slots {
-        if has_id(words, i, id) {
+    let mut i = from;
+    let mut passed = 0;
+    while passed < n {
+        let kind = kind_at(words, i);
+        if has_id(words, i, kind, id) {
             return Search {
                 found: Found::At(i),
-                visits,
+                visits: passed + 1,
             };
         }
-        if kind_at(words, i) == 0 {
+        if kind == 0 {
             return Search {
                 found: Found::Absent,
-                visits,
+                visits: passed + 1,
             };
         }
         i = next(i, slots);
-        visits += 1;
+        passed += 1;
     }
     Search {
         found: Found::Absent,
-        visits: slots,
+        visits: n,
     }
 }
 
@@ -92,19 +91,25 @@ pub fn find(words: &[u64], slots: usize, id: u64) -> Search
         };
     }
     let home = home(id, slots);
-    if has_id(words, home, id) {
+    let kind = kind_at(words, home);
+    if has_id(words, home, kind, id) {
         return Search {
             found: Found::At(home),
             visits: 1,
         };
     }
-    if kind_at(words, home) == 0 {
+    if kind == 0 {
         return Search {
             found: Found::Absent,
             visits: 1,
         };
     }
-    find_on(words, slots, id, home)
+    let rest = find_from(words, slots, id, next(home, slots), slots - 1);
+    let found = rest.found;
+    Search {
+        found,
+        visits: rest.visits + 1,
+    }
 }
 
 pub fn get(words: &[u64], slots: usize, id: u64) -> Got

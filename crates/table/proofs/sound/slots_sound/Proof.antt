@@ -1,116 +1,107 @@
--- `table::sound::slots_sound` meets its contract. The invariant: the first i slots pass both tests, and their live and removed ones are
--- counted. The measure is the slots that are left. Assumes nothing.
-use mathlib.Core.Path.{_≡_, sym, _∙_}
-use mathlib.Core.Bool.{Bool, true, false, not, true≢false}
+-- `table::sound::slots_sound` meets its contract: the listed slots are the live ones, so that their searches are those of `foundTest`.
+-- Assumes nothing.
+use mathlib.Core.Path.{_≡_, refl, sym, ap, _∙_}
+use mathlib.Core.Bool.{Bool, true, false, not}
 use mathlib.Core.List.{List}
-use Prim.Native.Nat.{ℕ, _+_, _-_, _<_, _≤_}
-use native.Mathlib.Nat.{le-antisymm}
+use Prim.Native.Nat.{ℕ, _≤_, _<_}
 use native.Mathlib.Omega.{arith}
 use borrow.Author.Needs.{needs}
-use borrow.Author.Tests.{eq-eqb, ne-eqb, not-true, not-false}
-use lib.Dec.{eqb}
-use Rattle.base.specs.Choose.{both, both-left, both-right, both-make, both-true}
-use Rattle.base.specs.Below.{all, one}
-use Rattle.base.specs.AllLaws.{all-at, all-none, all-more}
-use Rattle.base.specs.SumLaws.{sum-zero, sum-goes}
+use borrow.Author.Tests.{not-true, not-false, eqb-true, lt-ltb}
+use lib.Dec.{eqb, ltb}
+use lib.ListN.{length, getD, take, replicate, length-replicate}
+use lib.Seq.{length-take-le, getD-take}
+use Rattle.base.specs.Below.{all}
+use Rattle.base.specs.AllLaws.{all-make, all-ext}
+use Rattle.base.specs.Choose.{pick, both, both-left, both-right}
+use Rattle.base.specs.Listed.{passing, length-listed, listed-all}
+use Rattle.base.specs.SumLaws.{sum-one-le}
 use Rattle.table.specs.Slots.{isLive, isRemoved}
-use Rattle.table.specs.Sound.{codedAt, foundAt, codedTest, countsTest, foundTest}
+use Rattle.table.specs.Sound.{endsHere, codedTest, countsTest, foundTest, liveSlots}
 use Rattle.table.specs.declared.CapTable.{CapTable}
-use Rattle.table.proofs.CodeTests.{refuted}
-use Rattle.table.proofs.laws.Visits.{liveIn, removedIn}
 use Rattle.table.proofs.sound.slots_sound.Statement.{statement}
 use Rattle.table.proofs.sound.slots_sound.Tie as tie
 
-record Passed (ws : List ℕ) (slots i live removed : ℕ) : Type 0 where
-  coded : all i (λ j. codedAt ws j) ≡ true
-  found : all i (λ j. foundAt ws slots j) ≡ true
-  live-so-far : live ≡ liveIn ws i
-  removed-so-far : removed ≡ removedIn ws i
+abbrev zeros : List ℕ
+zeros = replicate 512 0
+
+abbrev kinds : List ℕ → CapTable → Bool
+kinds ws t = both (codedTest ws (t .slots)) (countsTest ws t)
 
 abbrev passes : List ℕ → CapTable → Bool
 passes ws t = both (codedTest ws (t .slots)) (both (countsTest ws t) (foundTest ws (t .slots)))
 
-starts : (ws : List ℕ) (slots : ℕ) → Passed ws slots 0 0 0
-starts ws slots =
-    record {
-      coded = all-none (λ j. codedAt ws j);
-      found = all-none (λ j. foundAt ws slots j);
-      live-so-far = sym (sum-zero (λ j. one (isLive ws j)));
-      removed-so-far = sym (sum-zero (λ j. one (isRemoved ws j)));
-    }
-
-goes : (ws : List ℕ) (slots i live removed l r : ℕ) (b : Bool) → Passed ws slots i live removed → b ≡ both (codedAt ws i) (foundAt ws slots i)
-    → not b ≡ false → l ≡ one (isLive ws i) → r ≡ one (isRemoved ws i) → Passed ws slots (i + 1) (live + l) (removed + r)
-goes ws slots i live removed l r b p e good h k =
-    let ok : both (codedAt ws i) (foundAt ws slots i) ≡ true = sym e ∙ not-false b good in
-    record {
-      coded = all-more i (λ j. codedAt ws j) (p .coded) (both-left (codedAt ws i) (foundAt ws slots i) ok);
-      found = all-more i (λ j. foundAt ws slots j) (p .found) (both-right (codedAt ws i) (foundAt ws slots i) ok);
-      live-so-far = sum-goes (λ j. one (isLive ws j)) i live l (p .live-so-far) h;
-      removed-so-far = sum-goes (λ j. one (isRemoved ws j)) i removed r (p .removed-so-far) k;
-    }
-
-breaks : (ws : List ℕ) (t : CapTable) (i : ℕ) (b : Bool) → i < t .slots → b ≡ both (codedAt ws i) (foundAt ws (t .slots) i) → not b ≡ true
-    → false ≡ passes ws t
-breaks ws t i b l e bad = refuted (passes ws t) (λ h. true≢false (sym (good h) ∙ not-true b bad))
+fails : (ws : List ℕ) (t : CapTable) (r : Bool) → r ≡ kinds ws t → not r ≡ true → false ≡ passes ws t
+fails ws t r e bad = go (codedTest ws (t .slots)) (countsTest ws t) (sym e ∙ not-true r bad)
   where
-    coded : Bool
-    coded = codedTest ws (t .slots)
+    go : (coded counts : Bool) → both coded counts ≡ false → false ≡ both coded (both counts (foundTest ws (t .slots)))
+    go true counts h = rw h
+    go false counts h = refl
 
-    counts : Bool
-    counts = countsTest ws t
-
-    found : Bool
-    found = foundTest ws (t .slots)
-
-    good : passes ws t ≡ true → b ≡ true
-    good h =
-        let coded-here = all-at (t .slots) (λ j. codedAt ws j) (both-left coded (both counts found) h) i l in
-        let found-here = all-at (t .slots) (λ j. foundAt ws (t .slots) j) (both-right counts found (both-right coded (both counts found) h)) i l in
-        e ∙ both-make (codedAt ws i) (foundAt ws (t .slots) i) coded-here found-here
-
-module _ (ws : List ℕ) (t : CapTable) (i live removed : ℕ) (p : Passed ws (t .slots) i live removed) (l : i ≤ t .slots) (past : t .slots ≤ i)
+-- What is known where the kinds are sound: xs are the numbers of the live slots, and there are n of them.
+module _ (ws : List ℕ) (t : CapTable) (few : t .slots ≤ 512) (r : Bool) (e : r ≡ kinds ws t) (good : not r ≡ false) (xs : List ℕ) (written : xs ≡ liveSlots ws (t .slots) zeros)
   where
-    all-passed : Passed ws (t .slots) (t .slots) live removed
-    all-passed = rw (le-antisymm l past) at p
+    counts : countsTest ws t ≡ true
+    counts = both-right (codedTest ws (t .slots)) (countsTest ws t) (sym e ∙ not-false r good)
 
-    miscounted : ¬ (live ≡ t .full) → false ≡ passes ws t
-    miscounted d = rw (all-passed .coded, ← all-passed .live-so-far, ne-eqb live (t .full) d)
+    coded : codedTest ws (t .slots) ≡ true
+    coded = both-left (codedTest ws (t .slots)) (countsTest ws t) (sym e ∙ not-false r good)
 
-    counted : live ≡ t .full → eqb removed (t .tombstones) ≡ passes ws t
-    counted e =
-        rw (all-passed .coded, all-passed .found, ← all-passed .live-so-far, ← all-passed .removed-so-far, eq-eqb live (t .full) e, both-true)
+    live-is : passing (isLive ws) (t .slots) ≡ t .full
+    live-is =
+        eqb-true _ _
+        (both-left (eqb (passing (isLive ws) (t .slots)) (t .full)) (eqb (passing (isRemoved ws) (t .slots)) (t .tombstones)) counts)
 
-ruleset pass-laws = (starts, breaks, miscounted, counted, needs)
+    fits : t .full ≤ length xs
+    unfolding liveSlots
+    fits =
+        rw (written, length-listed, length-replicate) (omega (arith, live-is, sum-one-le (isLive ws) (t .slots)))
 
-abbrev Inv-loop : tie.InvT-loop
-Inv-loop words t slots live₀ removed₀ i₀ live removed i = (i ≤ slots) × (live ≤ i) × (removed ≤ i) × Passed words slots i live removed
+    taken : length (take (t .full) xs) ≡ t .full
+    taken = length-take-le (t .full) xs fits
 
-abbrev μ-loop : tie.MeasureT-loop
-μ-loop words t slots live₀ removed₀ i₀ live removed i = slots - i
+    -- What the listed slots pass, each live slot passes.
+    each : (q : ℕ → Bool) → all (length (take (t .full) xs)) (λ j. q (getD (take (t .full) xs) j 0)) ≡ all (t .slots) (λ i. pick (isLive ws i) (q i) true)
+    unfolding liveSlots
+    each q =
+        ap (λ m. all m (λ j. q (getD (take (t .full) xs) j 0))) taken
+        ∙ all-ext (t .full) (λ j. q (getD (take (t .full) xs) j 0)) (λ j. q (getD xs j 0)) (λ j l. ap q (getD-take (t .full) xs j 0 l))
+        ∙ rw (written, ← live-is) (listed-all q (λ i. i) (isLive ws) (t .slots) zeros (rw length-replicate few))
 
-loop-again : tie.Need-loop-again Inv-loop μ-loop
-loop-again c =
-    let sound = c .before .before in
-    let inv = sound .before .before .before .loop .inv in
-    let next = goes _ _ _ _ _ _ _ _ (inv .3) (sound .before .slot-sound .ensures) (sound .if1 .left) (c .before .one-of .ensures .0) (c .one-of2 .ensures .0) in
-    (omega arith, omega arith, omega arith, next)
+    below : all (length (take (t .full) xs)) (λ j. ltb (getD (take (t .full) xs) j 0) (t .slots)) ≡ true
+    below = each (λ i. ltb i (t .slots)) ∙ all-make (t .slots) (λ i. pick (isLive ws i) (ltb i (t .slots)) true) (λ i l. go (isLive ws i) i l)
+      where
+        go : (live : Bool) (i : ℕ) → i < t .slots → pick live (ltb i (t .slots)) true ≡ true
+        go true i l = lt-ltb i (t .slots) l
+        go false i l = refl
+
+    decides : (b : Bool) → b ≡ all (length (take (t .full) xs)) (λ j. endsHere ws (t .slots) (getD (take (t .full) xs) j 0)) → b ≡ passes ws t
+    decides b h = rw (coded, counts) (h ∙ each (endsHere ws (t .slots)))
+
+array-share-prefix-live : tie.Need-array-share-prefix-live
+array-share-prefix-live c =
+    let called = c .before .kinds-sound .ensures in fits _ _ (omega arith) _ (called .0) (c .if1 .left) _ (called .1)
+
+slice-aggregate-all-found : tie.Need-slice-aggregate-all-found
+slice-aggregate-all-found c =
+    let called = c .before .before .kinds-sound .ensures in sym (taken _ _ (omega arith) _ (called .0) (c .before .if1 .left) _ (called .1))
+
+all-found-requires : tie.Need-all-found-requires
+all-found-requires c κs =
+    let called = c .before .before .kinds-sound .ensures in
+    (omega arith, below _ _ (omega arith) _ (called .0) (c .before .if1 .left) _ (called .1))
+
+returns-2 : tie.Need-returns-2
+returns-2 c =
+    let called = c .before .before .before .kinds-sound .ensures in
+    decides _ _ (omega arith) _ (called .0) (c .before .before .if1 .left) _ (called .1) _ (c .all-found .ensures)
 
 pub slots-sound-spec : {M : Type 1} → statement M
 slots-sound-spec =
     tie.close
     (tie.spec
-    Inv-loop
-    μ-loop
-    (λ c. search pass-laws)
     (λ c κs. search needs)
-    (λ c. search pass-laws)
-    (λ c κs. search needs)
-    (λ c. search needs)
-    (λ c κs. search needs)
-    (λ c. search needs)
-    (λ c. search needs)
-    (λ c. search needs)
-    loop-again
-    (λ c. search pass-laws)
-    (λ c. search pass-laws))
+    (λ c. search fails)
+    array-share-prefix-live
+    slice-aggregate-all-found
+    all-found-requires
+    returns-2)

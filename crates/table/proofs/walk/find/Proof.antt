@@ -1,4 +1,4 @@
--- `table::walk::find` meets its contract: no slots, the two ways to end at home, and the rest of the search. Assumes nothing.
+-- `table::walk::find` meets its contract: no slots, the two ways to end at home, and the search from the next slot on. Assumes nothing.
 use borrow.Author.Needs.{needs}
 use Rattle.table.proofs.CodeWalk.{home-laws}
 use Rattle.table.proofs.walk.find.Statement.{statement}
@@ -11,8 +11,11 @@ find-spec =
     (λ c. search home-laws)
     (λ c κs. search needs)
     (λ c κs. search needs)
-    (λ c. search home-laws)
     (λ c κs. search needs)
     (λ c. search home-laws)
-    (λ c κs. search home-laws)
-    (λ c. search needs))
+    (λ c. search home-laws)
+    (λ c κs. search needs)
+    (λ c. search needs)
+    (λ c κs. search needs)
+    (λ c. search needs)
+    (λ c. search home-laws))
