@@ -4,3 +4,4 @@ pub mod Sound
 pub mod Lookup
 pub mod Change
 pub mod Copy
+pub mod Ids

@@ -3,6 +3,7 @@
 mod change;
 mod copy;
 mod find;
+mod ids;
 mod sound;
 mod words;
 
@@ -16,6 +17,7 @@ pub use copy::replace;
 pub use find::get_entry;
 pub use find::lookup;
 pub use find::nth_entry;
+pub use ids::entry_ids;
 pub use sound::is_sound;
 use table::Got;
 pub use words::generation;

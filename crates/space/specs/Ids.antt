@@ -1,0 +1,14 @@
+-- The ids of a space's entries, in slot order: those that its clearing, or a copy over it, gives back.
+use mathlib.Core.List.{List, [], _∷_}
+use Prim.Native.Nat.{ℕ}
+use Rattle.table.specs.Insert.{liveEntries}
+use Rattle.table.specs.Slots.{idOf}
+use Rattle.table.specs.declared.CapabilityEntry.{CapabilityEntry}
+use Rattle.space.specs.Words.{tableOf, slotWords}
+
+unfoldable pub idsOf : List CapabilityEntry → List ℕ
+idsOf [] = []
+idsOf (e ∷ es) = idOf e ∷ idsOf es
+
+unfoldable pub entryIds : List ℕ → List ℕ
+entryIds sp = idsOf (liveEntries (slotWords sp) 0 (tableOf sp .slots))

@@ -1,0 +1,37 @@
+// The ids of a space's entries.
+ghost use mathlib.Core.Path.{_≡_};
+ghost use Prim.Native.Nat.{_≤_};
+ghost use lib.ListN.{length, take};
+ghost use Rattle.table.specs.Slots.{idOf};
+ghost use Rattle.space.specs.Words.{InRange};
+ghost use Rattle.space.specs.Ids.{entryIds};
+use super::words::table_capacity;
+use table::CapabilityEntry;
+use table::Slot;
+
+fn id_of(entry: CapabilityEntry) -> u64
+    ensures { λ r. ⌜ r ≡ idOf entry ⌝ }
+{
+    let capability = entry.capability;
+    capability.0 % 0x1_0000_0000_0000
+}
+
+// The ids of the entries, in slot order, to the front of `ids`; the answer is how many there are.
+pub fn entry_ids(sp: &[u64], ids: &mut [u64]) -> usize
+    requires { ⌜ InRange (now sp) × (512 ≤ length (now ids)) ⌝ }
+    ensures { λ r. ⌜ (take r (now (ids .exit)) ≡ entryIds (now (sp .entry))) × (r ≤ 512) × (r ≤ length (now (ids .exit))) ⌝ }
+{
+    let slots = table_capacity(sp);
+    let mut count = 0;
+    let mut i = 0;
+    while i < slots {
+        let Slot::Full(entry) = table::slot_at(&sp[8..], i) else {
+            i += 1;
+            continue;
+        };
+        ids[count] = id_of(entry);
+        count += 1;
+        i += 1;
+    }
+    count
+}
