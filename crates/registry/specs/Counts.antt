@@ -7,20 +7,21 @@ use Prim.Native.Nat.{ℕ, zero, suc, _+_, _<_, _≤_}
 use native.Mathlib.Nat.{add-zero, le-antisymm}
 use native.Mathlib.Decide.{ℕ-discrete, decLt}
 use native.Mathlib.Omega.{arith}
-use borrow.Author.Tests.{leb-true, le-leb, lt-leb, eqb-true, eq-eqb, ne-eqb}
+use borrow.Author.Tests.{le-leb, lt-leb, eqb-true, eq-eqb, ne-eqb}
 use lib.Dec.{leb, eqb, eqb·suc-suc}
 use lib.ListN.{length, getD, set, replicate, length-set}
 use lib.Seq.{getD-set-same, getD-set-other, set-out}
 use Rattle.base.specs.Below.{one}
-use Rattle.base.specs.AllLaws.{all-at, all-make, all-broken}
-use Rattle.base.specs.SumLaws.{sum-zero, sum-more, sum-grows, one-le, sum-one-le}
+use Rattle.base.specs.AllLaws.{all-make, all-broken}
+use Rattle.base.specs.SumLaws.{sum-zero, sum-more, sum-grows, one-le}
 use Rattle.base.specs.Distinct.{allDifferent}
 use Rattle.base.specs.Exactly.{same-test}
+use Rattle.base.specs.Listed.{fold, fold-ext}
 use Rattle.base.specs.Place.{placeOf, place-holds, place-is}
 use Rattle.base.specs.declared.distinct.Place.{Place}
 use Rattle.base.specs.declared.distinct.Place.the-variants.{At, Nowhere}
 use Rattle.registry.specs.Words.{childOf, children}
-use Rattle.registry.specs.Sound.{linkedAt, linkedTest, shortTest}
+use Rattle.registry.specs.Sound.{shortTest}
 
 zeros-at : (n k : ℕ) → getD (replicate n 0) k 0 ≡ zero
 zeros-at zero k = refl
@@ -88,9 +89,8 @@ module _ (link : ℕ → ℕ) (k : ℕ) (counts : List ℕ) (counted : Counted l
     }
 
     -- Its parent's list is full already.
-    pub counted-full : (n : ℕ) → linkedTest n link ≡ true → k < n → 1024 ≤ getD counts p 0 → false ≡ shortTest n link
-    counted-full n linked l full =
-        let earlier : link k ≤ k = leb-true (link k) k (all-at n (linkedAt link) linked k l) in
+    pub counted-full : (n : ℕ) → link k ≤ k → k < n → 1024 ≤ getD counts p 0 → false ≡ shortTest n link
+    counted-full n earlier l full =
         let long : 1024 < children link n p =
         omega (
           arith,
@@ -109,14 +109,6 @@ counted-done link k n counts counted l u long =
     (λ p inside.
     le-leb (children link n p) 1024
     (rw (← all-counted, ← counted .count p (omega arith)) (counted .short p (omega arith)))))
-
--- Lists of few places are short.
-pub short-few : (n : ℕ) (link : ℕ → ℕ) → n ≤ 1024 → true ≡ shortTest n link
-unfolding children
-short-few n link few =
-    sym
-    (all-make n (λ p. leb (children link n p) 1024)
-    (λ p l. le-leb (children link n p) 1024 (omega (arith, sum-one-le (childOf link p) n))))
 
 -- ---- entries
 
@@ -176,3 +168,27 @@ at-most-more e ids id counts few = record { most = λ k. go (placeOf ids id) k }
         (λ inside. omega (arith, add-one-at p k counts inside, one-le (eqb p k), few .most k))
         (λ outside. rw (set-out counts p (getD counts p 0 + 1) (omega arith)) (omega (arith, few .most k)))
     go Nowhere k = omega (arith, few .most k)
+
+-- An entry of each of the first n ids of a list.
+unfoldable pub countEntries : List ℕ → List ℕ → ℕ → List ℕ → List ℕ
+countEntries ids entries n counts = fold (λ j. countEntry ids (getD entries j 0)) n counts
+
+-- It goes by those ids alone.
+pub entries-ext :
+    (ids xs ys : List ℕ) (n : ℕ) (counts : List ℕ) → ((k : ℕ) → k < n → getD xs k 0 ≡ getD ys k 0)
+    → countEntries ids xs n counts ≡ countEntries ids ys n counts
+unfolding countEntries
+entries-ext ids xs ys n counts e =
+    fold-ext (λ j. countEntry ids (getD xs j 0)) (λ j. countEntry ids (getD ys j 0)) n counts (λ k l b. ap (λ id. countEntry ids id b) (e k l))
+
+pub few-entries : (e : ℕ) (ids entries : List ℕ) (n : ℕ) (counts : List ℕ) → AtMost e counts → AtMost (e + n) (countEntries ids entries n counts)
+unfolding countEntries fold
+few-entries e ids entries zero counts few = record { most = λ k. omega (arith, few .most k) }
+few-entries e ids entries (suc n) counts few =
+    record { most = λ k. omega (arith, at-most-more (e + n) ids (getD entries n 0) (countEntries ids entries n counts) (few-entries e ids entries n counts few) .most k) }
+
+pub length-entries : (ids entries : List ℕ) (n : ℕ) (counts : List ℕ) → length (countEntries ids entries n counts) ≡ length counts
+unfolding countEntries fold
+length-entries ids entries zero counts = refl
+length-entries ids entries (suc n) counts =
+    length-counted ids (getD entries n 0) (countEntries ids entries n counts) ∙ length-entries ids entries n counts

@@ -2,5 +2,10 @@
 pub mod Words
 pub mod Sound
 pub mod SoundLaws
+pub mod Rules
 pub mod Look
 pub mod Counts
+pub mod Holders
+pub mod HoldersLaws
+pub mod Ids
+pub mod IdsLaws

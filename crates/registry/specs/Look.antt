@@ -55,21 +55,24 @@ recycled-passed places n m next rg =
       λ h k l. (above m (recycledAt places rg) (h .0) (λ k l. h .1 .1 k l .0) k l, (h .1 .1 k l .1, h .1 .0 k l)),
     ))
 
--- The passes once the ids are known to differ: each place, the lengths of the lists, each recycled id.
+-- The rules of n places and the lengths of their lists.
+unfoldable pub placesTest : ℕ → ℕ → ℕ → List ℕ → Bool
+placesTest places n next rg = both (all n (placeTest places next rg)) (shortTest n (linkAt places rg))
+
+-- The passes once the ids are known to differ: the places with their lists, then each recycled id.
 unfoldable pub passesTest : ℕ → ℕ → ℕ → ℕ → List ℕ → Bool
-passesTest places n m next rg =
-    both (all n (placeTest places next rg)) (both (shortTest n (linkAt places rg)) (all m (recycledIdTest places n next rg)))
+passesTest places n m next rg = both (placesTest places n next rg) (all m (recycledIdTest places n next rg))
 
 pub registry-passed :
     (places n m next : ℕ) (rg : List ℕ)
     → registryTest places n m next rg ≡ both (differTest n (idAt rg)) (passesTest places n m next rg)
-unfolding registryTest passesTest
+unfolding registryTest passesTest placesTest
 registry-passed places n m next rg =
     rw (places-passed, recycled-passed)
     (same-test _ _
     (simp both-exactly (
       λ (differ, (issued, (ascend, (unregistered, (recycled, (linked, (listed, (short, cascaded)))))))).
-          (differ, ((issued, (linked, (listed, cascaded))), (short, (ascend, (unregistered, recycled))))),
-      λ (differ, ((issued, (linked, (listed, cascaded))), (short, (ascend, (unregistered, recycled))))).
+          (differ, (((issued, (linked, (listed, cascaded))), short), (ascend, (unregistered, recycled)))),
+      λ (differ, (((issued, (linked, (listed, cascaded))), short), (ascend, (unregistered, recycled)))).
           (differ, (issued, (ascend, (unregistered, (recycled, (linked, (listed, (short, cascaded)))))))),
     )))

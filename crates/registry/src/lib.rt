@@ -1,2 +1,4 @@
 // The registry, on its own slice of words.
+pub mod holders;
+pub mod ids;
 pub mod look;

@@ -8,9 +8,9 @@ ghost use Rattle.base.specs.Below.{all};
 ghost use Rattle.base.specs.Chain.{Chained};
 ghost use Rattle.base.specs.Choose.{both};
 ghost use Rattle.registry.specs.Words.{idAt, stateAt, linkAt, revoked, listed, holders};
-ghost use Rattle.registry.specs.Sound.{linkedTest, shortTest, unregisteredId, withinTest, registryTest};
-ghost use Rattle.registry.specs.Counts.{Counted, countEntry, AtMost};
-ghost use Rattle.registry.specs.Look.{placeTest, recycledIdTest, passesTest};
+ghost use Rattle.registry.specs.Sound.{unregisteredId, withinTest, registryTest};
+ghost use Rattle.registry.specs.Counts.{Counted, countEntry, countEntries, AtMost};
+ghost use Rattle.registry.specs.Look.{placeTest, placesTest, recycledIdTest, passesTest};
 use base::distinct::Place;
 use base::distinct::index;
 use base::distinct::place_of;
@@ -47,41 +47,18 @@ fn place_sound(rg: &[u64], places: usize, next: u64, k: usize) -> bool
     child_sound(rg[2 * places + (link - 1)], rg[2 * places + k])
 }
 
-// The rules of each of n places.
-fn places_sound(rg: &[u64], places: usize, n: usize, next: u64) -> bool
-    requires { ⌜ (n ≤ places) × (places ≤ 4095) × (4 * places ≤ length (now rg)) ⌝ }
-    ensures { λ r. ⌜ r ≡ all n (placeTest places next (now (rg .entry))) ⌝ }
+// The rules of each of n places, and that no list holds over 1,024, in counters of children that are 0 yet.
+fn each_place_sound(rg: &[u64], places: usize, n: usize, next: u64, counts: &mut [u16]) -> bool
+    requires { ⌜ (n ≤ places) × (places ≤ 4095) × (4 * places ≤ length (now rg)) × (n ≤ length (now counts)) ⌝ }
+    requires { ⌜ Counted (linkAt places (now rg)) 0 (now counts) ⌝ }
+    ensures { λ r. ⌜ r ≡ placesTest places n next (now (rg .entry)) ⌝ }
 {
     let mut k = 0;
     while k < n {
-        if place_sound(rg, places, next, k) {
-            k += 1;
-        } else {
+        if !place_sound(rg, places, next, k) {
             return false;
         }
-    }
-    true
-}
-
-// The link at place k, of n places whose links name earlier ones.
-fn link_at(rg: &[u64], places: usize, n: usize, k: usize) -> usize
-    requires { ⌜ (k < n) × (n ≤ places) × (places ≤ 4095) × (4 * places ≤ length (now rg)) ⌝ }
-    requires { ⌜ linkedTest n (linkAt places (now rg)) ≡ true ⌝ }
-    ensures { λ r. ⌜ (r ≡ linkAt places (now (rg .entry)) k) × (r ≤ k) ⌝ }
-{
-    rg[3 * places + k] as usize
-}
-
-// Whether no list of n places holds over 1,024, in counters of children that are 0 yet.
-fn count_children(rg: &[u64], places: usize, n: usize, counts: &mut [u16]) -> bool
-    requires { ⌜ (n ≤ places) × (places ≤ 4095) × (4 * places ≤ length (now rg)) × (n ≤ length (now counts)) ⌝ }
-    requires { ⌜ linkedTest n (linkAt places (now rg)) ≡ true ⌝ }
-    requires { ⌜ Counted (linkAt places (now rg)) 0 (now counts) ⌝ }
-    ensures { λ r. ⌜ r ≡ shortTest n (linkAt places (now (rg .entry))) ⌝ }
-{
-    let mut k = 0;
-    while k < n {
-        let link = link_at(rg, places, n, k);
+        let link = rg[3 * places + k] as usize;
         if link == 0 {
             k += 1;
             continue;
@@ -97,17 +74,18 @@ fn count_children(rg: &[u64], places: usize, n: usize, counts: &mut [u16]) -> bo
     true
 }
 
-// Whether no list of n places holds over 1,024: fewer places have no such list.
-fn lists_short(rg: &[u64], places: usize, n: usize) -> bool
+// The rules of n places and of their lists. Few places have few counters, since to clear them all takes longer than to go along few
+// places.
+fn places_sound(rg: &[u64], places: usize, n: usize, next: u64) -> bool
     requires { ⌜ (n ≤ places) × (places ≤ 4095) × (4 * places ≤ length (now rg)) ⌝ }
-    requires { ⌜ linkedTest n (linkAt places (now rg)) ≡ true ⌝ }
-    ensures { λ r. ⌜ r ≡ shortTest n (linkAt places (now (rg .entry))) ⌝ }
+    ensures { λ r. ⌜ r ≡ placesTest places n next (now (rg .entry)) ⌝ }
 {
-    if n <= 1024 {
-        return true;
+    if n <= 512 {
+        let mut counts = [0u16; 512];
+        return each_place_sound(rg, places, n, next, &mut counts);
     }
     let mut counts = [0u16; 4096];
-    count_children(rg, places, n, &mut counts)
+    each_place_sound(rg, places, n, next, &mut counts)
 }
 
 // Whether none of n ids is this one, by the index of the ids.
@@ -171,9 +149,7 @@ fn passes_sound(
     ensures { λ r. ⌜ r ≡ passesTest places n m next (now (rg .entry)) ⌝ }
 {
     if places_sound(rg, places, n, next) {
-        if lists_short(rg, places, n) {
-            return recycled_sound(rg, places, n, m, next, heads, prevs);
-        }
+        return recycled_sound(rg, places, n, m, next, heads, prevs);
     }
     false
 }
@@ -225,7 +201,7 @@ pub fn holders_within(rg: &[u64], places: usize, n: usize, counts: &[u16]) -> bo
 }
 
 // Counts an entry of an id at the id's place, by the index of the ids, if it is registered.
-pub fn count_entry(ids: &[u64], heads: &[u16], prevs: &[u16], counts: &mut [u16], id: u64)
+fn count_entry(ids: &[u64], heads: &[u16], prevs: &[u16], counts: &mut [u16], id: u64)
     requires { ⌜ Chained (now ids) (now heads) (now prevs) (length (now ids)) ⌝ }
     requires { ⌜ length (now ids) ≤ length (now counts) ⌝ }
     requires { ⌜ AtMost 65534 (now counts) ⌝ }
@@ -233,5 +209,19 @@ pub fn count_entry(ids: &[u64], heads: &[u16], prevs: &[u16], counts: &mut [u16]
 {
     if let Place::At(k) = place_of(ids, heads, prevs, id) {
         counts[k] += 1;
+    }
+}
+
+// Counts an entry of each of these ids.
+pub fn count_entries(ids: &[u64], heads: &[u16], prevs: &[u16], entries: &[u64], counts: &mut [u16])
+    requires { ⌜ Chained (now ids) (now heads) (now prevs) (length (now ids)) ⌝ }
+    requires { ⌜ (length (now ids) ≤ length (now counts)) × (length (now entries) ≤ 512) ⌝ }
+    requires { ⌜ AtMost 65023 (now counts) ⌝ }
+    ensures { λ r. ⌜ now (counts .exit) ≡ countEntries (now (ids .entry)) (now (entries .entry)) (length (now (entries .entry))) (now (counts .entry)) ⌝ }
+{
+    let mut j = 0;
+    while j < entries.len() {
+        count_entry(ids, heads, prevs, counts, entries[j]);
+        j += 1;
     }
 }

@@ -1,0 +1,64 @@
+-- The turns of the code that holds and releases ids: one id, at the place k where it was found, and a list of them one after the other.
+use mathlib.Core.Path.{_≡_, sym, _∙_}
+use mathlib.Core.List.{List}
+use Prim.Native.Nat.{ℕ, _+_, _-_, _*_, _%_, _^_, _<_, _≤_}
+use native.Mathlib.Numerals.{add-one}
+use borrow.Author.Needs.{needs}
+use borrow.Author.Tests.{lt-ltb, le-ltb}
+use lib.ListN.{length, getD, set, drop, drop-of-length-le}
+use lib.Seq.{drop-cons, set-getD}
+use Rattle.registry.specs.Words.{stateAt}
+use Rattle.registry.specs.Holders.{placeOf, oneMore, oneLess, onState, held, released, heldAll, releasedAll}
+
+-- ---- one id
+
+module _ (places n id k : ℕ) (rg : List ℕ) (e : k ≡ placeOf n rg id) where
+  changed : (f : ℕ → ℕ) → k < n → set rg (2 * places + k) (f (stateAt places rg k)) ≡ onState places n id f rg
+  changed f l = rw (← e, lt-ltb k n l)
+
+  unchanged : (f : ℕ → ℕ) → n ≤ k → rg ≡ onState places n id f rg
+  unchanged f l = rw (← e, le-ltb k n l)
+
+  pub hold-found : (v : ℕ) → k < n → v ≡ (stateAt places rg k + 4) % 2 ^ 64 → set rg (2 * places + k) v ≡ held places n id rg
+  unfolding held
+  hold-found v l h = rw h (changed oneMore l)
+
+  pub hold-none : n ≤ k → rg ≡ held places n id rg
+  unfolding held
+  hold-none l = unchanged oneMore l
+
+  pub release-found : k < n → 4 ≤ stateAt places rg k → set rg (2 * places + k) (stateAt places rg k - 4) ≡ released places n id rg
+  unfolding released
+  release-found l some = rw (le-ltb (stateAt places rg k) 4 some) at (changed oneLess l)
+
+  pub release-few : k < n → stateAt places rg k < 4 → rg ≡ released places n id rg
+  unfolding released
+  release-few l few =
+      sym (set-getD rg (2 * places + k) 0) ∙ rw (lt-ltb (stateAt places rg k) 4 few) at (changed oneLess l)
+
+  pub release-none : n ≤ k → rg ≡ released places n id rg
+  unfolding released
+  release-none l = unchanged oneLess l
+
+pub ruleset one-id = (needs, hold-found, hold-none, release-found, release-few, release-none)
+
+-- ---- a list of ids: what is left to do, done, is the answer ys
+
+module _ (places n j : ℕ) (ids rg ys : List ℕ) where
+  pub hold-turn : (rg′ : List ℕ) → heldAll places n (drop j ids) rg ≡ ys → j < length ids → rg′ ≡ held places n (getD ids j 0) rg → heldAll places n (drop (j + 1) ids) rg′ ≡ ys
+  unfolding heldAll
+  hold-turn rg′ e l h = rw (h, add-one) (rw (drop-cons ids j 0 l) at e)
+
+  pub hold-done : heldAll places n (drop j ids) rg ≡ ys → length ids ≤ j → rg ≡ ys
+  unfolding heldAll
+  hold-done e l = rw (drop-of-length-le ids l) at e
+
+  pub release-turn : (rg′ : List ℕ) → releasedAll places n (drop j ids) rg ≡ ys → j < length ids → rg′ ≡ released places n (getD ids j 0) rg → releasedAll places n (drop (j + 1) ids) rg′ ≡ ys
+  unfolding releasedAll
+  release-turn rg′ e l h = rw (h, add-one) (rw (drop-cons ids j 0 l) at e)
+
+  pub release-done : releasedAll places n (drop j ids) rg ≡ ys → length ids ≤ j → rg ≡ ys
+  unfolding releasedAll
+  release-done e l = rw (drop-of-length-le ids l) at e
+
+pub ruleset each-id = (needs, hold-turn, hold-done, release-turn, release-done)

@@ -1,0 +1,2 @@
+-- What several proofs of `registry` share.
+pub mod Holding
