@@ -9,17 +9,18 @@ use native.Mathlib.Numerals.{add-one}
 use native.Mathlib.Omega.{arith}
 use borrow.Author.Tests.{eqb-true, eq-eqb}
 use lib.Dec.{eqb, leb}
-use lib.ListN.{length, getD, take, replicate, length-replicate}
+use lib.ListN.{length, getD, take}
 use lib.Seq.{length-take-le, getD-take}
 use Rattle.base.specs.AllLaws.{all-more, all-ext}
 use Rattle.base.specs.Below.{all, sum, one}
 use Rattle.base.specs.Choose.{pick, both, both-left, both-right, both-true, both-false}
 use Rattle.base.specs.Distinct.{allDifferent}
 use Rattle.base.specs.Exactly.{same-test}
-use Rattle.base.specs.SumLaws.{sum-zero, sum-more, sum-const-zero}
+use Rattle.base.specs.Listed.{fold, passing, listed, length-listed, listed-fold}
+use Rattle.base.specs.SumLaws.{sum-const-zero}
 use Rattle.table.specs.Slots.{isLive, idAt}
 use Rattle.table.specs.Sound.{Capacity, no-slots, some-slots}
-use Rattle.registry.specs.Counts.{countEntry, entry-counted, length-counted, AtMost, at-most-none, at-most-more}
+use Rattle.registry.specs.Counts.{countEntry, entry-counted, length-counted, AtMost, at-most-more, countEntries}
 use Rattle.registry.specs.Sound.{withinTest, heldTest}
 use Rattle.registry.specs.Words as reg
 use Rattle.space.specs.Sound.{SoundSpace, spaceTest}
@@ -37,8 +38,26 @@ countSlot ids ws i counts = pick (isLive ws i) (countEntry ids (idAt ws i) count
 
 -- The first n slots.
 unfoldable pub countSlots : List ℕ → List ℕ → ℕ → List ℕ → List ℕ
-countSlots ids ws zero counts = counts
-countSlots ids ws (suc n) counts = countSlot ids ws n (countSlots ids ws n counts)
+countSlots ids ws n counts = fold (countSlot ids ws) n counts
+
+-- How many of the first n slots are live.
+abbrev pub liveBelow : List ℕ → ℕ → ℕ
+liveBelow ws n = passing (isLive ws) n
+
+-- The ids of the live ones of the first n slots, over what stood there.
+unfoldable pub liveIds : List ℕ → ℕ → List ℕ → List ℕ
+liveIds ws n xs = listed (idAt ws) (isLive ws) n xs
+
+pub length-live : (ws : List ℕ) (n : ℕ) (xs : List ℕ) → length (liveIds ws n xs) ≡ length xs
+unfolding liveIds
+length-live ws n xs = length-listed (idAt ws) (isLive ws) n xs
+
+-- An entry of each of these ids is what the slots count.
+pub live-counted :
+    (ids ws : List ℕ) (n : ℕ) (xs counts : List ℕ) → n ≤ length xs
+    → countEntries ids (liveIds ws n xs) (liveBelow ws n) counts ≡ countSlots ids ws n counts
+unfolding countEntries countSlots countSlot liveIds
+live-counted ids ws n xs counts room = listed-fold (countEntry ids) counts (idAt ws) (isLive ws) n xs room
 
 -- ---- no counter goes up by more than the slots
 
@@ -53,8 +72,8 @@ few-slot e ids ws i counts few = go (isLive ws i)
     go true = rw add-one at (at-most-more e ids (idAt ws i) counts few)
     go false = few-more e (suc e) counts few (omega arith)
 
-pub few-slots : (e : ℕ) (ids ws : List ℕ) (n : ℕ) (counts : List ℕ) → AtMost e counts → AtMost (e + n) (countSlots ids ws n counts)
-unfolding countSlots
+few-slots : (e : ℕ) (ids ws : List ℕ) (n : ℕ) (counts : List ℕ) → AtMost e counts → AtMost (e + n) (countSlots ids ws n counts)
+unfolding countSlots fold
 few-slots e ids ws zero counts few = few-more e (e + 0) counts few (omega arith)
 few-slots e ids ws (suc n) counts few = rw add-suc (few-slot (e + n) ids ws n (countSlots ids ws n counts) (few-slots e ids ws n counts few))
 
@@ -66,11 +85,6 @@ length-slot ids ws i counts = go (isLive ws i)
     go true = length-counted ids (idAt ws i) counts
     go false = refl
 
-pub length-slots : (ids ws : List ℕ) (n : ℕ) (counts : List ℕ) → length (countSlots ids ws n counts) ≡ length counts
-unfolding countSlots
-length-slots ids ws zero counts = refl
-length-slots ids ws (suc n) counts = length-slot ids ws n (countSlots ids ws n counts) ∙ length-slots ids ws n counts
-
 -- ---- what it counts
 
 -- Of each registered id, f of the id is counted.
@@ -79,9 +93,9 @@ pub record Tally (ids : List ℕ) (f : ℕ → ℕ) (counts : List ℕ) : Type 0
   pub room : length ids ≤ length counts
   pub count : (k : ℕ) → k < length ids → getD counts k 0 ≡ f (getD ids k 0)
 
-pub tally-none : (ids : List ℕ) (n : ℕ) → allDifferent ids ≡ true → length ids ≤ n → Tally ids (λ id. 0) (replicate n 0)
-tally-none ids n different long =
-    record { differ = different; room = rw length-replicate long; count = λ k l. omega (arith, at-most-none n .most k) }
+tally-none : (ids counts : List ℕ) → allDifferent ids ≡ true → length ids ≤ length counts → AtMost 0 counts → Tally ids (λ id. 0) counts
+tally-none ids counts different room none =
+    record { differ = different; room = room; count = λ k l. omega (arith, none .most k) }
 
 tally-ext : (ids : List ℕ) (f g : ℕ → ℕ) (counts : List ℕ) → Tally ids f counts → ((id : ℕ) → f id ≡ g id) → Tally ids g counts
 tally-ext ids f g counts tally same =
@@ -107,7 +121,7 @@ entriesIn ws n id = sum (λ i. one (entryOf ws id i)) n
 tally-slots :
     (ids : List ℕ) (f : ℕ → ℕ) (ws : List ℕ) (n : ℕ) (counts : List ℕ) → Tally ids f counts
     → Tally ids (λ id. f id + entriesIn ws n id) (countSlots ids ws n counts)
-unfolding countSlots sum
+unfolding countSlots fold sum
 tally-slots ids f ws zero counts tally = tally-ext ids f (λ id. f id + 0) counts tally (λ id. sym (add-zero (f id)))
 tally-slots ids f ws (suc n) counts tally =
     let before = tally-slots ids f ws n counts tally in
@@ -177,9 +191,9 @@ pub record Looked (d : Numbers) (mem ids : List ℕ) (s : ℕ) (counts : List �
   pub few : AtMost (s * 512) counts
 
 module _ (d : Numbers) (mem ids : List ℕ) where
-  pub looked-none : (n : ℕ) → allDifferent ids ≡ true → length ids ≤ n → Looked d mem ids 0 (replicate n 0)
+  pub looked-none : (counts : List ℕ) → allDifferent ids ≡ true → length ids ≤ length counts → AtMost 0 counts → Looked d mem ids 0 counts
   unfolding all sum
-  looked-none n different long = record { sound = refl; tally = tally-none ids n different long; few = at-most-none n }
+  looked-none counts different room none = record { sound = refl; tally = tally-none ids counts different room none; few = none }
 
   pub looked-more :
       (s : ℕ) (counts : List ℕ) → Looked d mem ids s counts → SoundSpace (d .most) (view d (space s) mem)

@@ -3,15 +3,16 @@ ghost use mathlib.Core.Path.{_≡_};
 ghost use mathlib.Core.Bool.{true};
 ghost use Prim.Native.Nat.{_+_, _*_, _<_, _≤_};
 ghost use lib.ListN.{length};
+ghost use Rattle.base.specs.Below.{one};
 ghost use Rattle.base.specs.Chain.{Chained};
-ghost use Rattle.base.specs.Choose.{both};
 ghost use Rattle.registry.specs.Counts.{AtMost};
 ghost use Rattle.space.specs.Sound.{spaceTest};
 ghost use Rattle.space.specs.Words.{tableOf, slotWords};
-ghost use Rattle.world.specs.Look.{countSlot, countSlots, Looked};
+ghost use Rattle.table.specs.Slots.{isLive};
+ghost use Rattle.world.specs.Look.{countSlots, liveBelow, liveIds, Looked};
 ghost use Rattle.world.specs.Regions.{space, view};
-ghost use Rattle.world.specs.Numbers.{InRange};
-ghost use Rattle.world.specs.Sound.{registeredIds, spacesWith, countsTest, headTest, idsTest, spacesTest, holdersTest, holdingsTest, loggedTest, queuesTest, soundTest};
+ghost use Rattle.world.specs.Numbers.{registeredOf, InRange};
+ghost use Rattle.world.specs.Sound.{registeredIds, countsTest, headTest, spacesTest, holdingsTest, loggedTest, queuesTest, soundTest};
 ghost use Rattle.world.specs.SoundLaws.{Headed};
 use crate::Numbers;
 use crate::head::in_range;
@@ -22,7 +23,7 @@ use crate::regions::queue_at;
 use crate::regions::registry_at;
 use crate::regions::space_at;
 use crate::regions::width;
-use registry::look::count_entry;
+use registry::look::count_entries;
 use registry::look::holders_within;
 use registry::look::registry_sound;
 use table::Slot;
@@ -61,46 +62,48 @@ fn head_sound(mem: &[u64], d: Numbers) -> bool
     counts_fit(mem, d)
 }
 
-// Counts the entry of slot i, if it holds one, at the place of its id.
-fn count_slot(
-    words: &[u64],
-    i: usize,
-    ids: &[u64],
-    heads: &[u16],
-    prevs: &[u16],
-    counts: &mut [u16],
-)
+// 1 for a live slot, 0 for any other.
+fn one_live(words: &[u64], i: usize) -> usize
     requires { ⌜ (i < 512) × (4 * i + 3 < length (now words)) ⌝ }
-    requires { ⌜ Chained (now ids) (now heads) (now prevs) (length (now ids)) ⌝ }
-    requires { ⌜ length (now ids) ≤ length (now counts) ⌝ }
-    requires { ⌜ AtMost 65534 (now counts) ⌝ }
-    ensures { λ r. ⌜ now (counts .exit) ≡ countSlot (now (ids .entry)) (now (words .entry)) i (now (counts .entry)) ⌝ }
+    ensures { λ r. ⌜ (r ≡ one (isLive (now (words .entry)) i)) × (r ≤ 1) ⌝ }
 {
     match table::slot_at(words, i) {
-        Slot::Full(entry) => {
-            let capability = entry.capability;
-            count_entry(ids, heads, prevs, counts, capability.id());
-        }
-        Slot::Tombstone => {}
-        Slot::Empty => {}
+        Slot::Full(_) => 1,
+        Slot::Tombstone => 0,
+        Slot::Empty => 0,
     }
 }
 
+// Writes the ids of the live slots one after the other, and answers how many they are. Every slot's id is written, over the one before
+// it unless that was live: a branch by the kind, which follows no pattern, would be foretold wrongly every other time.
+fn live_ids(words: &[u64], slots: usize, ids: &mut [u64; 512]) -> usize
+    requires { ⌜ (slots ≤ 512) × (4 * slots ≤ length (now words)) ⌝ }
+    ensures { λ r. ⌜ (r ≡ liveBelow (now (words .entry)) slots) × (r ≤ slots) ⌝ }
+    ensures { λ r. ⌜ now (ids .exit) ≡ liveIds (now (words .entry)) slots (now (ids .entry)) ⌝ }
+{
+    let mut n = 0;
+    let mut i = 0;
+    while i < slots {
+        let entry = table::entry_at(words, i);
+        let capability = entry.capability;
+        ids[n] = capability.id();
+        n += one_live(words, i);
+        i += 1;
+    }
+    n
+}
+
 // Counts the entries of a space, at the places of their ids.
-fn count_entries(sp: &[u64], ids: &[u64], heads: &[u16], prevs: &[u16], counts: &mut [u16])
+fn count_space(sp: &[u64], ids: &[u64], heads: &[u16], prevs: &[u16], counts: &mut [u16])
     requires { ⌜ (tableOf (now sp) .slots ≤ 512) × (8 + 4 * tableOf (now sp) .slots ≤ length (now sp)) ⌝ }
     requires { ⌜ Chained (now ids) (now heads) (now prevs) (length (now ids)) ⌝ }
     requires { ⌜ length (now ids) ≤ length (now counts) ⌝ }
-    requires { ⌜ AtMost 32256 (now counts) ⌝ }
+    requires { ⌜ AtMost 65023 (now counts) ⌝ }
     ensures { λ r. ⌜ now (counts .exit) ≡ countSlots (now (ids .entry)) (slotWords (now (sp .entry))) (tableOf (now (sp .entry)) .slots) (now (counts .entry)) ⌝ }
 {
-    let slots = sp[5] as usize;
-    let words = &sp[8..];
-    let mut i = 0;
-    while i < slots {
-        count_slot(words, i, ids, heads, prevs, counts);
-        i += 1;
-    }
+    let mut entries = [0u64; 512];
+    let n = live_ids(&sp[8..], sp[5] as usize, &mut entries);
+    count_entries(ids, heads, prevs, &entries[..n], counts);
 }
 
 // Whether space s is sound. If so, its entries are counted.
@@ -125,7 +128,7 @@ fn space_sound(
     if !space::is_sound(sp, d.most) {
         return false;
     }
-    count_entries(sp, ids, heads, prevs, counts);
+    count_space(sp, ids, heads, prevs, counts);
     true
 }
 
@@ -155,33 +158,48 @@ fn spaces_sound(
     true
 }
 
-// The ids, with their index in heads and prevs, then the spaces, whose entries are counted by the index, then the holders.
-fn holdings_sound(mem: &[u64], d: Numbers) -> bool
+// The ids, then the spaces, whose entries are counted by the index of the ids, then the holders. Heads and prevs index nothing yet, and
+// nothing is counted.
+fn holdings_by(
+    mem: &[u64],
+    d: Numbers,
+    heads: &mut [u16],
+    prevs: &mut [u16],
+    counts: &mut [u16],
+) -> bool
     requires { ⌜ Headed d (now mem) ⌝ }
+    requires { ⌜ Chained (registeredIds d (now mem)) (now heads) (now prevs) 0 ⌝ }
+    requires { ⌜ (registeredOf (now mem) ≤ length (now counts)) × AtMost 0 (now counts) ⌝ }
     ensures { λ r. ⌜ r ≡ holdingsTest d (now (mem .entry)) ⌝ }
 {
     let start = registry_at(d);
     let end = start + 5 * d.places + 1;
     let rg = &mem[start..end];
     let n = mem[11] as usize;
-    let mut heads = [0u16; 8192];
+    if !registry_sound(rg, d.places, n, mem[12] as usize, mem[5], heads, prevs) {
+        return false;
+    }
+    if !spaces_sound(mem, d, &rg[..n], heads, prevs, counts) {
+        return false;
+    }
+    holders_within(rg, d.places, n, counts)
+}
+
+// The ids, the spaces and the holders. Few ids have a small index, since to clear the large one takes longer than to look at them.
+fn holdings_sound(mem: &[u64], d: Numbers) -> bool
+    requires { ⌜ Headed d (now mem) ⌝ }
+    ensures { λ r. ⌜ r ≡ holdingsTest d (now (mem .entry)) ⌝ }
+{
+    if mem[11] <= 512 {
+        let mut heads = [0u16; 2048];
+        let mut prevs = [0u16; 512];
+        let mut counts = [0u16; 512];
+        return holdings_by(mem, d, &mut heads, &mut prevs, &mut counts);
+    }
+    let mut heads = [0u16; 65536];
     let mut prevs = [0u16; 4096];
-    if !registry_sound(
-        rg,
-        d.places,
-        n,
-        mem[12] as usize,
-        mem[5],
-        &mut heads,
-        &mut prevs,
-    ) {
-        return false;
-    }
     let mut counts = [0u16; 4096];
-    if !spaces_sound(mem, d, &rg[..n], &heads, &prevs, &mut counts) {
-        return false;
-    }
-    holders_within(rg, d.places, n, &counts)
+    holdings_by(mem, d, &mut heads, &mut prevs, &mut counts)
 }
 
 fn log_sound(mem: &[u64], d: Numbers) -> bool

@@ -1,169 +1,61 @@
--- What is lent is the registry. Its rules give the index of its ids, the index the count of the spaces' entries, the count the holders'
--- rule.
-use mathlib.Core.Bool.{Bool, true, false, not}
+-- Fresh arrays index nothing and have counted nothing; the larger ones have room for all ids.
 use mathlib.Core.List.{List}
-use mathlib.Core.Path.{_≡_, sym, _∙_}
-use Prim.Native.Nat.{ℕ, _+_, _-_, _*_, _≤_}
+use mathlib.Core.Path.{_≡_}
+use Prim.Native.Nat.{ℕ, _+_, _*_, _^_, _<_, _≤_}
 use native.Mathlib.Omega.{arith}
 use denote.Ref.{now}
 use borrow.Author.Needs.{needs}
-use borrow.Author.Tests.{not-false}
-use lib.ListN.{length, getD, take, drop, replicate, length-replicate}
+use lib.ListN.{length, replicate, length-replicate}
 use lib.Seq.{length-take-le}
 use Rattle.base.specs.Chain.{Chained, chained-none}
-use Rattle.base.specs.Choose.{both, both-left}
-use Rattle.base.specs.Distinct.{allDifferent, differTest, differ-take}
-use Rattle.registry.specs.Sound.{registryTest, withinTest}
-use Rattle.registry.specs.Words.{idAt, stateAt}
-use Rattle.world.specs.Look.{Looked, looked-none, held-by-tally}
-use Rattle.world.specs.Numbers.{nextOf, registeredOf, recycledOf}
-use Rattle.world.specs.Regions.{registry, lengthFor, startOf, view}
-use Rattle.world.specs.Sound.{spacesWith, idsTest, spacesTest, holdersTest, holdingsTest}
+use Rattle.registry.specs.Counts.{at-most-none}
+use Rattle.world.specs.Numbers.{registeredOf}
+use Rattle.world.specs.Regions.{registry, lengthFor, view}
+use Rattle.world.specs.Sound.{registeredIds}
 use Rattle.world.specs.SoundLaws.{Headed}
-use Rattle.world.specs.Views.{length-view, lent-view}
+use Rattle.world.specs.Views.{length-view}
 use Rattle.world.specs.declared.Numbers.{Numbers}
-use Rattle.world.proofs.Tests.{fails, passes}
 use Rattle.world.proofs.look.holdings_sound.Statement.{statement}
 use Rattle.world.proofs.look.holdings_sound.Tie as tie
 
--- What is known once the registry's start is.
-record Placed (d : Numbers) (mem : List ℕ) (start : ℕ) : Type 0 where
-  head : Headed d mem
-  start-is : start ≡ startOf d registry
+no-index :
+    (d : Numbers) (mem : List ℕ) (buckets room : ℕ) → Headed d mem → 0 < buckets → buckets ≤ 2 ^ 32 → registeredOf mem ≤ room
+    → Chained (registeredIds d mem) (replicate buckets 0) (replicate room 0) 0
+no-index d mem buckets room head some few fits =
+    let long : length (view d registry mem) ≡ 5 * d .places + 1 = length-view d registry mem tt (head .long-enough) in
+    let ids : length (registeredIds d mem) ≡ registeredOf mem =
+    length-take-le (registeredOf mem) (view d registry mem) (omega (arith, head .registered-fit)) in
+    chained-none (registeredIds d mem) (replicate room 0) buckets some few (rw (length-replicate, ids) fits)
 
-abbrev begun : tie.After-registry-at → tie.Start
-begun c = c .before .before
-
-placed : (c : tie.After-registry-at) → Placed (begun c .args .d) (now (begun c .args .mem)) (c .registry-at .result)
-placed c = record { head = begun c .pre; start-is = c .registry-at .ensures .is }
-
-module _ {d : Numbers} {mem : List ℕ} {start : ℕ} (p : Placed d mem start) where
-  abbrev rg : List ℕ
-  rg = take ((start + 5 * d .places + 1) - start) (drop start mem)
-
-  abbrev ids : List ℕ
-  ids = take (registeredOf mem) rg
-
-  rg-is : rg ≡ view d registry mem
-  rg-is = lent-view d registry mem start (start + 5 * d .places + 1) (p .start-is) (omega arith)
-
-  long : length rg ≡ 5 * d .places + 1
-  long = rw rg-is (length-view d registry mem tt (p .head .long-enough))
-
-  ids-fit : registeredOf mem ≤ length rg
-  ids-fit = omega (arith, long, p .head .registered-fit)
-
-  few-ids : length ids ≤ 4096
-  few-ids = omega (arith, length-take-le (registeredOf mem) rg ids-fit, p .head .registered-fit, p .head .in-range .places .1)
-
-  no-index : Chained ids (replicate 8192 0) (replicate 4096 0) 0
-  no-index = chained-none ids (replicate 4096 0) 8192 (omega arith) (omega arith) (rw length-replicate few-ids)
-
-  module _ {r : Bool} (e : r ≡ registryTest (d .places) (registeredOf mem) (recycledOf mem) (nextOf mem) rg) where
-    ids-tested : r ≡ idsTest d mem
-    unfolding idsTest
-    ids-tested = rw (← rg-is) e
-
-    ids-fail : not r ≡ true → false ≡ holdingsTest d mem
-    ids-fail t = fails r (idsTest d mem) _ ids-tested t
-
-    module _ (t : not r ≡ false) where
-      different : allDifferent ids ≡ true
-      unfolding registryTest
-      different =
-          differ-take (registeredOf mem) rg ids-fit
-          ∙ both-left (differTest (registeredOf mem) (idAt rg)) _ (sym e ∙ not-false r t)
-
-      counts-none : Looked d mem ids 0 (replicate 4096 0)
-      counts-none = looked-none d mem ids 4096 different few-ids
-
-      module _ {s : Bool} (f : s ≡ spacesTest d mem) where
-        spaces-fail : not s ≡ true → false ≡ holdingsTest d mem
-        spaces-fail u =
-            passes r (idsTest d mem) _ false ids-tested t (fails s (spacesTest d mem) (holdersTest d mem) f u)
-
-        holders-decide :
-            {h : Bool} {counts : List ℕ} → not s ≡ false → Looked d mem ids (d .spaces) counts
-            → h ≡ withinTest (registeredOf mem) (stateAt (d .places) rg) (λ k. getD counts k 0) → h ≡ holdingsTest d mem
-        unfolding holdersTest spacesWith
-        holders-decide {h} {counts} u looked g =
-            passes r (idsTest d mem) _ h ids-tested t
-            (passes s (spacesTest d mem) (holdersTest d mem) h f u
-            (g ∙ held-by-tally (registeredOf mem) rg counts (stateAt (d .places) rg) (spacesWith d mem) ids-fit (looked .tally) ∙ rw rg-is))
-
-shared-slice-read-n : tie.Need-shared-slice-read-n
+shared-slice-read-if1 : tie.Need-shared-slice-read-if1
 unfolding lengthFor
-shared-slice-read-n c = omega arith
+shared-slice-read-if1 c = omega arith
 
-shared-slice-read-registry-sound : tie.Need-shared-slice-read-registry-sound
-unfolding lengthFor
-shared-slice-read-registry-sound c = omega arith
+holdings-by-requires : tie.Need-holdings-by-requires
+holdings-by-requires c κs =
+    let head = c .before .before .before .before .before .before .pre in
+    let few = c .before .before .before .if1 .taken in
+    (head, (no-index _ _ 2048 512 head (omega arith) (omega arith) few, (few, at-most-none 512)))
 
-registry-sound-requires : tie.Need-registry-sound-requires
-registry-sound-requires c κs =
-    let p = placed (c .before .before .before .before .before .before .before) in
-    ((p .head .registered-fit, p .head .recycled-fit, p .head .in-range .places .1, omega (arith, long p)), no-index p)
-
-returns : tie.Need-returns
-returns c =
-    let called = c .before .before .before in
-    ids-fail (placed (called .before .before .before .before .before .before .before .before)) (called .registry-sound .ensures .0) (c .if1 .taken)
-
-slice-aggregate-spaces-sound : tie.Need-slice-aggregate-spaces-sound
-slice-aggregate-spaces-sound c =
-    let called = c .before .before .before .before in
-    sym (length-take-le _ _ (ids-fit (placed (called .before .before .before .before .before .before .before .before))))
-
-spaces-sound-requires : tie.Need-spaces-sound-requires
-spaces-sound-requires c κs =
-    let called = c .before .before .before .before .before .before .before in
-    let p = placed (called .before .before .before .before .before .before .before .before) in
-    let (told, index) = called .registry-sound .ensures in
-    let passed = c .before .before .before .before .if1 .left in
-    (p .head, (index (not-false _ passed), counts-none p told passed))
-
-returns-2 : tie.Need-returns-2
-returns-2 c =
-    let called = c .before .before .before .before .before .before .before .before .before .before in
-    let p = placed (called .before .before .before .before .before .before .before .before) in
-    let passed = c .before .before .before .before .before .before .before .if1 .left in
-    spaces-fail p (called .registry-sound .ensures .0) passed (c .before .before .spaces-sound .ensures .0) (c .if2 .taken)
-
-returns-3 : tie.Need-returns-3
-returns-3 c =
-    let counted = c .before .before .before .before in
-    let passed = counted .before .before .before .before .before .if1 .left in
-    let called = counted .before .before .before .before .before .before .before .before in
-    let p = placed (called .before .before .before .before .before .before .before .before) in
-    let (told, tally) = counted .spaces-sound .ensures in
-    let still = c .before .before .if2 .left in
-    holders-decide p (called .registry-sound .ensures .0) passed told still (tally (not-false _ still)) (c .holders-within .ensures)
+holdings-by-requires-2 : tie.Need-holdings-by-requires-2
+holdings-by-requires-2 c κs =
+    let start = c .before .before .before .before .before .before in
+    let head = start .pre in
+    let fit : registeredOf (now (start .args .mem)) ≤ 4096 = omega (arith, head .registered-fit, head .in-range .places .1) in
+    (head, (no-index _ _ 65536 4096 head (omega arith) (omega arith) fit, (fit, at-most-none 4096)))
 
 pub holdings-sound-spec : {M : Type 1} → statement M
 holdings-sound-spec =
     tie.close
     (tie.spec
-    (λ c κs. search needs)
+    shared-slice-read-if1
+    (λ c. search needs)
+    (λ c. search needs)
+    (λ c. search needs)
+    holdings-by-requires
     (λ c. search needs)
     (λ c. search needs)
     (λ c. search needs)
     (λ c. search needs)
-    (λ c. search needs)
-    (λ c. search needs)
-    (λ c. search needs)
-    shared-slice-read-n
-    shared-slice-read-registry-sound
-    (λ c. search needs)
-    (λ c. search needs)
-    (λ c. search needs)
-    registry-sound-requires
-    returns
-    slice-aggregate-spaces-sound
-    (λ c. search needs)
-    (λ c. search needs)
-    (λ c. search needs)
-    spaces-sound-requires
-    returns-2
-    (λ c. search needs)
-    (λ c κs. search needs)
-    returns-3)
+    holdings-by-requires-2
+    (λ c. search needs))

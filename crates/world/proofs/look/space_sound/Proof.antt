@@ -11,7 +11,6 @@ use lib.ListN.{length, take, drop}
 use Rattle.space.specs.Sound.{SoundSpace, spaceTest}
 use Rattle.space.specs.Words.{tableOf, slotWords, wordsFor}
 use Rattle.space.proofs.laws.Tests.{space-exactly}
-use Rattle.registry.specs.Counts.{AtMost}
 use Rattle.world.specs.Layout.{width-le}
 use Rattle.world.specs.Look.{countSlots, slots-fit, few-more, Looked, looked-more}
 use Rattle.world.specs.Regions.{space, widthOf, startOf, view}
@@ -75,14 +74,14 @@ returns : tie.Need-returns
 returns c =
     (sym (not-true _ (c .if1 .taken)) ∙ tested (placed (c .before .before .before)) (c .before .is-sound .ensures), λ e. absurd (true≢false (sym e)))
 
-count-entries-requires : tie.Need-count-entries-requires
-count-entries-requires c κs =
+count-space-requires : tie.Need-count-space-requires
+count-space-requires c κs =
     let at = c .before .before .before .before in
     let told = c .before .before .is-sound .ensures in
     let passed = c .before .if1 .left in
     let (_, (chained, looked)) = begun at .pre in (
       (few (placed at) told passed, fit (placed at) told passed),
-      (chained, (looked .tally .room, few-more _ 32256 _ (looked .few) (omega arith))),
+      (chained, (looked .tally .room, few-more _ 65023 _ (looked .few) (omega arith))),
     )
 
 returns-2 : tie.Need-returns-2
@@ -92,7 +91,7 @@ returns-2 c =
     let told = counted-at .before .before .before .is-sound .ensures in
     let passed = counted-at .before .before .if1 .left in (
       sym (not-false _ passed) ∙ tested (placed at) told,
-      λ _. counted (placed at) told passed (begun at .pre .1 .1) (counted-at .count-entries .ensures),
+      λ _. counted (placed at) told passed (begun at .pre .1 .1) (counted-at .count-space .ensures),
     )
 
 pub space-sound-spec : {M : Type 1} → statement M
@@ -108,6 +107,6 @@ space-sound-spec =
     (λ c. search needs)
     is-sound-requires
     returns
-    count-entries-requires
+    count-space-requires
     (λ c. search needs)
     returns-2)
