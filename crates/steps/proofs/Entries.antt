@@ -1,0 +1,70 @@
+-- Entries come and go, and their holders are counted: the ways through `insert`, `remove`, `clear` and `copy`.
+use mathlib.Core.Bool.{true, false}
+use mathlib.Core.List.{List}
+use mathlib.Core.Path.{_≡_, sym, ap, _∙_}
+use Prim.Native.Nat.{ℕ, _%_, _^_}
+use borrow.Author.Tests.{eq-eqb, ne-eqb}
+use lib.Dec.{eqb}
+use lib.ListN.{length}
+use Rattle.answers.specs.Number.{numberOf}
+use Rattle.answers.specs.declared.Answer.{Answer}
+use Rattle.space.specs.Change.{insertOut, removedToken, cleared}
+use Rattle.space.specs.Copy.{copiedSpace}
+use Rattle.space.specs.Ids.{entryIds}
+use Rattle.space.specs.Lookup.{lookedUp}
+use Rattle.table.specs.Slots.{idOf}
+use Rattle.table.specs.declared.CapabilityEntry.{CapabilityEntry}
+use Rattle.table.specs.declared.Got.{Got}
+use Rattle.table.specs.declared.Got.the-variants.{Entry, Nothing}
+use Rattle.world.specs.Numbers.{registeredOf}
+use Rattle.world.specs.Regions.{space, lengthFor, onRegion}
+use Rattle.world.specs.declared.Numbers.{Numbers}
+use Rattle.steps.specs.Ready.{Fits, Ready}
+use Rattle.steps.specs.Steps.{spaceOf, holdStep, releaseStep, holdAllStep, releaseAllStep, insertStep, isEntry, removeStep, clearStep, copyStep}
+
+-- Memory of the same length fits as well.
+pub still-fits : (d : Numbers) (mem after : List ℕ) → Ready d mem → length after ≡ length mem → Fits d after
+still-fits d mem after ready same =
+    record { in-range = ready .fits .in-range; long-enough = rw same (ready .fits .long-enough) }
+
+module _ (d : Numbers) (s : ℕ) (mem : List ℕ) where
+  module _ (e : CapabilityEntry) (between : List ℕ) (answer : Answer) (number : ℕ)
+      (came : between ≡ onRegion d (space s) (λ sp. insertOut sp e .words) mem)
+      (told : answer ≡ insertOut (spaceOf d s mem) e .answer) (numbered : number ≡ numberOf answer)
+    where
+      pub insert-accepted : number ≡ 0 → (after : List ℕ) → after ≡ holdStep d (registeredOf mem) (idOf e) between → after ≡ insertStep d s e mem
+      unfolding insertStep
+      insert-accepted zero after held =
+          let yes : eqb (numberOf (insertOut (spaceOf d s mem) e .answer)) 0 ≡ true = rw (← told, ← numbered) (eq-eqb number 0 zero) in
+          rw (yes, held, came)
+
+      pub insert-refused : ¬ (number ≡ 0) → between ≡ insertStep d s e mem
+      unfolding insertStep
+      insert-refused some =
+          let no : eqb (numberOf (insertOut (spaceOf d s mem) e .answer)) 0 ≡ false = rw (← told, ← numbered) (ne-eqb number 0 some) in
+          rw (no, came)
+
+  module _ (token : ℕ) (between : List ℕ) (got : Got) (left : between ≡ onRegion d (space s) (λ sp. removedToken sp token) mem)
+      (told : got ≡ lookedUp (spaceOf d s mem) token .got)
+    where
+      pub remove-found : isEntry got ≡ true → (after : List ℕ) → after ≡ releaseStep d (registeredOf mem) (token % 2 ^ 48) between → after ≡ removeStep d s token mem
+      unfolding removeStep
+      remove-found is after released = rw (← told, is, released, left)
+
+      pub remove-absent : isEntry got ≡ false → between ≡ removeStep d s token mem
+      unfolding removeStep
+      remove-absent is = rw (← told, is, left)
+
+  pub clear-done : (ids between after : List ℕ) → ids ≡ entryIds (spaceOf d s mem) → between ≡ onRegion d (space s) cleared mem
+      → after ≡ releaseAllStep d (registeredOf mem) ids between → after ≡ clearStep d s mem
+  unfolding clearStep
+  clear-done ids between after are left released = rw (released, are, left)
+
+pub copy-done :
+    (d : Numbers) (target source : ℕ) (mem came left copied held after : List ℕ)
+    → came ≡ entryIds (spaceOf d source mem) → left ≡ entryIds (spaceOf d target mem)
+    → copied ≡ onRegion d (space target) (copiedSpace (spaceOf d source mem)) mem
+    → held ≡ holdAllStep d (registeredOf mem) came copied → after ≡ releaseAllStep d (registeredOf mem) left held
+    → after ≡ copyStep d target source mem
+unfolding copyStep
+copy-done d target source mem came left copied held after come leave copy hold release = rw (release, hold, come, leave, copy)

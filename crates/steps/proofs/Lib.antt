@@ -1,0 +1,7 @@
+-- What the proofs of `steps` share.
+pub mod laws
+pub mod Entering
+pub mod Lending
+pub mod Entries
+pub mod TakingIds
+pub mod Copying

@@ -1,0 +1,4 @@
+-- What the contracts of `steps` cite.
+pub mod Enter
+pub mod Ready
+pub mod Steps

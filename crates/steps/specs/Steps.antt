@@ -1,0 +1,108 @@
+-- What each step leaves of the memory, and what it answers where that is not the structure's own answer.
+use mathlib.Core.Bool.{Bool, true, false}
+use mathlib.Core.List.{List}
+use Prim.Native.Nat.{ℕ, _+_, _-_, _%_, _^_}
+use lib.Dec.{eqb, ltb}
+use lib.ListN.{length, set}
+use Rattle.answers.specs.Number.{numberOf}
+use Rattle.base.specs.Choose.{pick}
+use Rattle.registry.specs.Holders.{held, released, heldAll, releasedAll}
+use Rattle.registry.specs.Ids.{firstTaken}
+use Rattle.space.specs.Change.{insertOut, removedToken, cleared, nextGeneration}
+use Rattle.space.specs.Copy.{copiedTable, copiedSpace}
+use Rattle.space.specs.Ids.{entryIds}
+use Rattle.space.specs.Lookup.{lookedUp, counted}
+use Rattle.space.specs.Words.{quotaOf, generationOf, hitsOf, missesOf, tableOf}
+use Rattle.table.specs.Slots.{idOf}
+use Rattle.table.specs.declared.CapabilityEntry.{CapabilityEntry}
+use Rattle.table.specs.declared.Got.{Got}
+use Rattle.table.specs.declared.Got.the-variants.{Entry, Nothing}
+use Rattle.world.specs.Numbers.{nextOf, registeredOf, recycledOf}
+use Rattle.world.specs.Regions.{space, registry, view, onRegion}
+use Rattle.world.specs.Sound.{recycled}
+use Rattle.world.specs.declared.Numbers.{Numbers}
+use Rattle.steps.specs.declared.Copied.{Copied}
+use Rattle.steps.specs.declared.Facts.{Facts}
+use Rattle.steps.specs.declared.Taken.{Taken}
+use Rattle.steps.specs.declared.Taken.the-variants.{Id, Exhausted}
+
+-- ---- one space
+
+abbrev pub spaceOf : Numbers → ℕ → List ℕ → List ℕ
+spaceOf d s mem = view d (space s) mem
+
+unfoldable pub factsOf : List ℕ → Facts
+factsOf sp =
+    record {
+      quota = quotaOf sp;
+      generation = generationOf sp;
+      hits = hitsOf sp;
+      misses = missesOf sp;
+      slots = tableOf sp .slots;
+      used = tableOf sp .full;
+    }
+
+-- A lookup, counted.
+unfoldable pub lookupStep : Numbers → ℕ → ℕ → List ℕ → List ℕ
+lookupStep d s token mem = onRegion d (space s) (λ sp. counted sp token) mem
+
+-- The space generation goes up by one.
+unfoldable pub nextStep : Numbers → ℕ → List ℕ → List ℕ
+nextStep d s mem = onRegion d (space s) nextGeneration mem
+
+-- ---- holders
+
+unfoldable pub holdStep : Numbers → ℕ → ℕ → List ℕ → List ℕ
+holdStep d n id mem = onRegion d registry (held (d .places) n id) mem
+
+unfoldable pub releaseStep : Numbers → ℕ → ℕ → List ℕ → List ℕ
+releaseStep d n id mem = onRegion d registry (released (d .places) n id) mem
+
+unfoldable pub holdAllStep : Numbers → ℕ → List ℕ → List ℕ → List ℕ
+holdAllStep d n ids mem = onRegion d registry (heldAll (d .places) n ids) mem
+
+unfoldable pub releaseAllStep : Numbers → ℕ → List ℕ → List ℕ → List ℕ
+releaseAllStep d n ids mem = onRegion d registry (releasedAll (d .places) n ids) mem
+
+-- ---- entries, with their holders: plus one per accepted entry of a registered id, minus one per entry leaving
+
+unfoldable pub insertStep : Numbers → ℕ → CapabilityEntry → List ℕ → List ℕ
+insertStep d s e mem =
+    let after = onRegion d (space s) (λ sp. insertOut sp e .words) mem in
+    pick (eqb (numberOf (insertOut (spaceOf d s mem) e .answer)) 0) (holdStep d (registeredOf mem) (idOf e) after) after
+
+abbrev pub isEntry : Got → Bool
+isEntry (Entry e) = true
+isEntry Nothing = false
+
+unfoldable pub removeStep : Numbers → ℕ → ℕ → List ℕ → List ℕ
+removeStep d s token mem =
+    let after = onRegion d (space s) (λ sp. removedToken sp token) mem in
+    pick (isEntry (lookedUp (spaceOf d s mem) token .got)) (releaseStep d (registeredOf mem) (token % 2 ^ 48) after) after
+
+unfoldable pub clearStep : Numbers → ℕ → List ℕ → List ℕ
+clearStep d s mem = releaseAllStep d (registeredOf mem) (entryIds (spaceOf d s mem)) (onRegion d (space s) cleared mem)
+
+-- A copy adds for all its entries before the old ones leave.
+unfoldable pub copyStep : Numbers → ℕ → ℕ → List ℕ → List ℕ
+copyStep d target source mem =
+    let n = registeredOf mem in
+    releaseAllStep d n (entryIds (spaceOf d target mem))
+    (holdAllStep d n (entryIds (spaceOf d source mem)) (onRegion d (space target) (copiedSpace (spaceOf d source mem)) mem))
+
+unfoldable pub copiedOf : Numbers → ℕ → ℕ → List ℕ → Copied
+copiedOf d target source mem =
+    let t = copiedTable (spaceOf d source mem) (spaceOf d target mem) in
+    record { moved = t .moved; accepted = length (entryIds (spaceOf d source mem)) }
+
+-- ---- ids: smallest recycled first, else next; none where next is 2^48
+
+unfoldable pub takenId : Numbers → List ℕ → Taken
+takenId d mem =
+    pick (ltb 0 (recycledOf mem)) (Id (recycled d mem 0)) (pick (ltb (nextOf mem) (2 ^ 48)) (Id (nextOf mem)) Exhausted)
+
+unfoldable pub takeStep : Numbers → List ℕ → List ℕ
+takeStep d mem =
+    pick (ltb 0 (recycledOf mem))
+    (set (onRegion d registry (firstTaken (d .places) (recycledOf mem)) mem) 12 (recycledOf mem - 1))
+    (pick (ltb (nextOf mem) (2 ^ 48)) (set mem 5 (nextOf mem + 1)) mem)
