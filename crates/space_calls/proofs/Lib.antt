@@ -1,0 +1,3 @@
+-- What the proofs of `space_calls` share.
+pub mod laws
+pub mod Leaving

@@ -1,0 +1,138 @@
+-- After a call on space s, every other space, the log, every queue and the head are as they were, and of the registry only holders differ;
+-- a call that takes an id changes recycled ids and the next id besides. So on every memory, whatever the answer.
+use mathlib.Core.Bool.{Bool, true, false, not}
+use mathlib.Core.List.{List}
+use mathlib.Core.Path.{_≡_, refl}
+use Prim.Native.Nat.{ℕ, _^_, _<_}
+use borrow.Author.Tests.{ltb-true}
+use lib.Dec.{ltb}
+use Rattle.answers.specs.declared.Answer.{Answer}
+use Rattle.answers.specs.declared.Answer.the-variants.{BadSpace}
+use Rattle.base.specs.Choose.{when}
+use Rattle.space.specs.Words.{generationOf}
+use Rattle.steps.specs.Enter.{onSpace}
+use Rattle.steps.specs.Steps.{spaceOf, copyStep, takenId, takeStep}
+use Rattle.steps.specs.declared.Taken.{Taken}
+use Rattle.steps.specs.declared.Taken.the-variants.{Id, Exhausted}
+use Rattle.steps.proofs.laws.SpaceSteps.{clear-step-kept}
+use Rattle.steps.proofs.laws.TakeStep.{take-step-kept}
+use Rattle.token.specs.Token.{made}
+use Rattle.token.specs.declared.capability.Made.{Made}
+use Rattle.token.specs.declared.capability.Made.the-variants.{Token, Refused}
+use Rattle.world.specs.Numbers.{numbersOf}
+use Rattle.world.specs.Sound.{Sound}
+use Rattle.world.specs.declared.Numbers.{Numbers}
+use Rattle.space_calls.specs.Calls.{lookupOut, lookupEntryOut, checkRightsOut, newEntry, insertCallOut, removeOut, incrementOut, clearOut, revokeAllOut, copyOut, allocOut, createMade, createTaken, createOut, revokeMade, revokeOut}
+use Rattle.space_calls.specs.Replies.{Left, refuse}
+use Rattle.space_calls.specs.declared.Reply.{Reply}
+use Rattle.space_calls.proofs.laws.Entered.{world-by-cases, space-by-cases}
+use Rattle.space_calls.proofs.laws.OnlyIds.{OnlyIds, only-no-id, take-step}
+use Rattle.space_calls.proofs.laws.OnlySpace.{OnlySpace, only-refl, only-trans, lookup-step, next-step, insert-step, remove-step, clear-step, copy-step}
+
+-- Ids are taken, then space s and holders change.
+pub record IdsAndSpace (d : Numbers) (s : ℕ) (mem after : List ℕ) : Type 0 where
+  pub between : List ℕ
+  pub ids : OnlyIds d mem between
+  pub only : OnlySpace d s between after
+
+module _ (mem : List ℕ) where
+  abbrev d : Numbers
+  d = numbersOf mem
+
+  -- What a call leaves.
+  abbrev Only : {A : Type 0} → ℕ → Left A → Type 0
+  Only s out = OnlySpace d s mem (out .memory)
+
+  on-space :
+      {A : Type 0} (refusing : Answer → A) (s : ℕ) (call : Numbers → Left A) → (Sound mem → s < d .spaces → Only s (call d))
+      → Only s (onSpace (λ a. record { reply = refusing a; memory = mem }) mem s call)
+  on-space refusing s call =
+      space-by-cases (Only s) _ mem call (λ bad. only-refl d s mem) s (λ sound far. only-refl d s mem)
+
+  -- ---- finding entries
+
+  pub lookup-only : (s token : ℕ) → OnlySpace (numbersOf mem) s mem (lookupOut mem s token .memory)
+  unfolding lookupOut
+  lookup-only s token = on-space _ s _ (λ sound valid. lookup-step d mem sound s valid token .only)
+
+  pub lookup-entry-only : (s token : ℕ) → OnlySpace (numbersOf mem) s mem (lookupEntryOut mem s token .memory)
+  unfolding lookupEntryOut
+  lookup-entry-only s token = on-space _ s _ (λ sound valid. lookup-step d mem sound s valid token .only)
+
+  pub check-rights-only : (s token required : ℕ) → OnlySpace (numbersOf mem) s mem (checkRightsOut mem s token required .memory)
+  unfolding checkRightsOut
+  check-rights-only s token required = on-space _ s _ (λ sound valid. lookup-step d mem sound s valid token .only)
+
+  -- ---- changing a space
+
+  pub insert-only :
+      (s token object rights : ℕ) → rights < 2 ^ 32 → OnlySpace (numbersOf mem) s mem (insertCallOut mem s token object rights .memory)
+  unfolding insertCallOut
+  insert-only s token object rights fits =
+      on-space _ s _ (λ sound valid. insert-step d mem sound s valid (newEntry token object rights) fits .only)
+
+  pub remove-only : (s token : ℕ) → OnlySpace (numbersOf mem) s mem (removeOut mem s token .memory)
+  unfolding removeOut
+  remove-only s token = on-space _ s _ (λ sound valid. remove-step d mem sound s valid token .only)
+
+  pub increment-only : (s : ℕ) → OnlySpace (numbersOf mem) s mem (incrementOut mem s .memory)
+  unfolding incrementOut
+  increment-only s = on-space _ s _ (λ sound valid. next-step d mem sound s valid .only)
+
+  pub clear-only : (s : ℕ) → OnlySpace (numbersOf mem) s mem (clearOut mem s .memory)
+  unfolding clearOut
+  clear-only s = on-space _ s _ (λ sound valid. clear-step d mem sound s valid .only)
+
+  pub revoke-all-only : (s : ℕ) → OnlySpace (numbersOf mem) s mem (revokeAllOut mem s .memory)
+  unfolding revokeAllOut
+  revoke-all-only s =
+      on-space _ s _
+      (λ sound valid.
+      let emptied = clear-step-kept d mem sound s valid in
+      only-trans d s mem _ _ (clear-step d mem sound s valid .only) (next-step d _ (emptied .sound) s valid .only))
+
+  pub copy-only : (target source : ℕ) → OnlySpace (numbersOf mem) target mem (copyOut mem target source .memory)
+  unfolding copyOut when
+  copy-only target source = on-space _ target _ (λ sound valid. go sound valid _ (ltb source (d .spaces)) refl)
+    where
+      go :
+          Sound mem → target < d .spaces → (r : Reply) (b : Bool) → ltb source (d .spaces) ≡ b
+          → Only target (when (not b) (refuse mem BadSpace) (record { reply = r; memory = copyStep d target source mem }))
+      go sound valid r true l = copy-step d mem sound target valid source (ltb-true source (d .spaces) l) .only
+      go sound valid r false l = only-refl d target mem
+
+  pub revoke-only : (s id : ℕ) → OnlySpace (numbersOf mem) s mem (revokeOut mem s id .memory)
+  unfolding revokeOut
+  revoke-only s id = on-space _ s _ (λ sound valid. go sound valid (made id (generationOf (spaceOf d s mem)) 0 0))
+    where
+      go : Sound mem → s < d .spaces → (m : Made) → Only s (revokeMade d s mem m)
+      go sound valid (Token t) = remove-step d mem sound s valid (t .0) .only
+      go sound valid (Refused a) = only-refl d s mem
+
+  -- ---- ids
+
+  pub alloc-only : OnlyIds (numbersOf mem) mem (allocOut mem .memory)
+  unfolding allocOut
+  alloc-only =
+      world-by-cases (λ (out : Left Reply). OnlyIds d mem (out .memory)) _ mem _ (λ bad. only-no-id d mem) (λ sound. take-step d mem sound)
+
+  pub create-only : (s rights object : ℕ) → rights < 2 ^ 32 → IdsAndSpace (numbersOf mem) s mem (createOut mem s rights object .memory)
+  unfolding createOut
+  create-only s rights object fits =
+      space-by-cases (λ (out : Left Reply). IdsAndSpace d s mem (out .memory)) _ mem _ (λ bad. as-it-is) s (λ sound far. as-it-is)
+      (λ sound valid. record { between = after; ids = take-step d mem sound; only = taken sound valid (takenId d mem) })
+    where
+      after : List ℕ
+      after = takeStep d mem
+
+      as-it-is : IdsAndSpace d s mem mem
+      as-it-is = record { between = mem; ids = only-no-id d mem; only = only-refl d s mem }
+
+      tokened : Sound mem → s < d .spaces → (id : ℕ) (m : Made) → OnlySpace d s after (createMade d s rights object id after m .memory)
+      tokened sound valid id (Token t) =
+          insert-step d after (take-step-kept d mem sound .sound) s valid (newEntry (t .0) object rights) fits .only
+      tokened sound valid id (Refused a) = only-refl d s after
+
+      taken : Sound mem → s < d .spaces → (t : Taken) → OnlySpace d s after (createTaken d s rights object after t .memory)
+      taken sound valid (Id id) = tokened sound valid id (made id (generationOf (spaceOf d s after)) 0 0)
+      taken sound valid Exhausted = only-refl d s after

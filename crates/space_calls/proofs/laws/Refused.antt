@@ -1,0 +1,268 @@
+-- 26 is answered exactly on memory that is not sound, 20 exactly on a sound one for a space number of S or more.
+use mathlib.Core.Bool.{Bool, true, false, not}
+use mathlib.Core.List.{List}
+use mathlib.Core.Logic.{_↔_, _≢_, _⊎_, inl, inr, ⊎-elim}
+use mathlib.Core.Path.{_≡_, refl, ap}
+use Prim.Native.Nat.{ℕ, _-_, _^_, _≤_, _<_}
+use native.Mathlib.Omega.{arith}
+use borrow.Author.Tests.{eqb-false, ltb-true, ltb-false}
+use lib.Dec.{eqb, leb, ltb}
+use Rattle.answers.specs.Number.{numberOf}
+use Rattle.answers.specs.declared.Answer.{Answer}
+use Rattle.answers.specs.declared.Answer.the-variants.{Done, AlreadyExists, NotFound, IdExhausted, SpaceQuota, SpaceIds, BadSpace, BadField, BadWorld}
+use Rattle.base.specs.Choose.{pick, when}
+use Rattle.space.specs.Change.{InsertOut, insertOut}
+use Rattle.space.specs.Lookup.{lookedUp, gotEntry}
+use Rattle.space.specs.Words.{generationOf, tableOf, slotWords}
+use Rattle.space.proofs.laws.Insert.{insert-by-cases}
+use Rattle.steps.specs.Enter.{onWorld, onSpace}
+use Rattle.steps.specs.Steps.{spaceOf, takenId, takeStep}
+use Rattle.steps.specs.declared.Taken.{Taken}
+use Rattle.steps.specs.declared.Taken.the-variants.{Id, Exhausted}
+use Rattle.table.specs.Copy.{nthOf}
+use Rattle.table.specs.Insert.{liveEntries}
+use Rattle.table.specs.declared.CapabilityEntry.{CapabilityEntry}
+use Rattle.table.specs.declared.Got.{Got}
+use Rattle.table.specs.declared.Got.the-variants.{Entry, Nothing}
+use Rattle.table.specs.declared.Nth.{Nth}
+use Rattle.table.specs.declared.Nth.the-variants as nth
+use Rattle.token.specs.Token.{packed, made}
+use Rattle.token.specs.declared.capability.Made.{Made}
+use Rattle.token.specs.declared.capability.Made.the-variants.{Token, Refused}
+use Rattle.world.specs.Numbers.{numbersOf}
+use Rattle.world.specs.Sound.{Sound}
+use Rattle.world.specs.declared.Numbers.{Numbers}
+use Rattle.space_calls.specs.Calls.{usedOut, quotaOut, capacityOut, generationOut, statsOut, lookupOut, lookupEntryOut, checkRightsOut, getEntryOut, nthEntryOut, newEntry, insertCallOut, removeOut, incrementOut, clearOut, revokeAllOut, copyOut, takenReply, allocOut, createMade, createTaken, createOut, revokeMade, revokeOut}
+use Rattle.space_calls.specs.Replies.{Left, refuse, foundReply, heldReply, noEntry, entryReply, nthReply}
+use Rattle.space_calls.specs.declared.EntryReply.{EntryReply}
+use Rattle.space_calls.specs.declared.Reply.{Reply}
+use Rattle.space_calls.specs.declared.StatsReply.{StatsReply}
+use Rattle.space_calls.proofs.laws.Entered.{world-by-cases, space-by-cases}
+
+-- What the answer of a call on space s says of the memory and of s.
+pub record Told (mem : List ℕ) (s : ℕ) (answer : Answer) : Type 0 where
+  pub bad-world : (answer ≡ BadWorld) ↔ (¬ Sound mem)
+  pub bad-space : (answer ≡ BadSpace) ↔ (Sound mem × (numbersOf mem .spaces ≤ s))
+
+-- An answer that a call gives once it is made: neither 26 nor 20.
+pub record Inner (answer : Answer) : Type 0 where
+  pub not-26 : numberOf answer ≢ 26
+  pub not-20 : numberOf answer ≢ 20
+
+-- Every call whose own answers are such, on every memory.
+module _ {A : Type 0} (answerOf : A → Answer) (refusing : Answer → A) (mem : List ℕ) (call : Numbers → A)
+    (says : (a : Answer) → answerOf (refusing a) ≡ a) (inner : Inner (answerOf (call (numbersOf mem))))
+  where
+    pub told : (s : ℕ) → Told mem s (answerOf (onSpace refusing mem s call))
+    told s =
+        space-by-cases (λ r. Told mem s (answerOf r)) refusing mem call
+        (λ bad. record {
+          bad-world = (λ e. bad, λ b. says BadWorld);
+          bad-space = (λ e. absurd (omega (arith, ap numberOf e, ap numberOf (says BadWorld))), λ (sound, far). absurd (bad sound));
+        })
+        s
+        (λ sound far. record {
+          bad-world = (λ e. absurd (omega (arith, ap numberOf e, ap numberOf (says BadSpace))), λ bad. absurd (bad sound));
+          bad-space = (λ e. (sound, far), λ (sound, far). says BadSpace);
+        })
+        (λ sound valid. record {
+          bad-world = (λ e. absurd (inner .not-26 (ap numberOf e)), λ bad. absurd (bad sound));
+          bad-space = (λ e. absurd (inner .not-20 (ap numberOf e)), λ (sound, far). absurd (omega arith));
+        })
+
+    pub world-told : (answerOf (onWorld refusing mem call) ≡ BadWorld) ↔ (¬ Sound mem)
+    world-told =
+        world-by-cases (λ r. (answerOf r ≡ BadWorld) ↔ (¬ Sound mem)) refusing mem call
+        (λ bad. (λ e. bad, λ b. says BadWorld))
+        (λ sound. (λ e. absurd (inner .not-26 (ap numberOf e)), λ bad. absurd (bad sound)))
+
+-- ---- the calls' own answers
+
+inner : (a : Answer) → eqb (numberOf a) 26 ≡ false → eqb (numberOf a) 20 ≡ false → Inner a
+inner a not-26 not-20 = record { not-26 = eqb-false (numberOf a) 26 not-26; not-20 = eqb-false (numberOf a) 20 not-20 }
+
+inner-0 : Inner Done
+inner-0 = inner Done refl refl
+
+inner-found : (value : CapabilityEntry → ℕ) (got : Got) (visits : ℕ) → Inner (foundReply value got visits .answer)
+inner-found value (Entry e) visits = inner-0
+inner-found value Nothing visits = inner NotFound refl refl
+
+inner-held : (required : ℕ) (got : Got) (visits : ℕ) → Inner (heldReply required got visits .answer)
+inner-held required (Entry e) visits = inner-0
+inner-held required Nothing visits = inner-0
+
+inner-entry : (got : Got) (visits : ℕ) → Inner (entryReply got visits .answer)
+inner-entry (Entry e) visits = inner-0
+inner-entry Nothing visits = inner NotFound refl refl
+
+inner-nth : (n : Nth) → Inner (nthReply n .answer)
+inner-nth (nth.Entry e) = inner-0
+inner-nth nth.Past = inner NotFound refl refl
+
+inner-insert : (sp : List ℕ) (e : CapabilityEntry) → Inner (insertOut sp e .answer)
+inner-insert sp e =
+    insert-by-cases sp e (λ (o : InsertOut). Inner (o .answer))
+    (λ over. inner SpaceQuota refl refl) (λ i under there. inner AlreadyExists refl refl) (λ a. inner-0)
+
+inner-taken : (t : Taken) → Inner (takenReply t .answer)
+inner-taken (Id id) = inner-0
+inner-taken Exhausted = inner IdExhausted refl refl
+
+-- ---- call by call
+
+abbrev answerOf : Left Reply → Answer
+answerOf out = out .reply .answer
+
+module _ (mem : List ℕ) (s : ℕ) where
+  abbrev d : Numbers
+  d = numbersOf mem
+
+  abbrev sp : List ℕ
+  sp = spaceOf d s mem
+
+  pub used-told : Told mem s (usedOut mem s .answer)
+  unfolding usedOut
+  used-told = told (λ (r : Reply). r .answer) _ mem _ (λ a. refl) inner-0 s
+
+  pub quota-told : Told mem s (quotaOut mem s .answer)
+  unfolding quotaOut
+  quota-told = told (λ (r : Reply). r .answer) _ mem _ (λ a. refl) inner-0 s
+
+  pub capacity-told : Told mem s (capacityOut mem s .answer)
+  unfolding capacityOut
+  capacity-told = told (λ (r : Reply). r .answer) _ mem _ (λ a. refl) inner-0 s
+
+  pub generation-told : Told mem s (generationOut mem s .answer)
+  unfolding generationOut
+  generation-told = told (λ (r : Reply). r .answer) _ mem _ (λ a. refl) inner-0 s
+
+  pub stats-told : Told mem s (statsOut mem s .answer)
+  unfolding statsOut
+  stats-told = told (λ (r : StatsReply). r .answer) _ mem _ (λ a. refl) inner-0 s
+
+  pub lookup-told : (token : ℕ) → Told mem s (lookupOut mem s token .reply .answer)
+  unfolding lookupOut
+  lookup-told token =
+      told answerOf _ mem _ (λ a. refl) (inner-found (λ e. e .rights .0) (lookedUp sp token .got) (lookedUp sp token .visits)) s
+
+  pub lookup-entry-told : (token : ℕ) → Told mem s (lookupEntryOut mem s token .reply .answer)
+  unfolding lookupEntryOut
+  lookup-entry-told token =
+      told (λ (out : Left EntryReply). out .reply .answer) _ mem _ (λ a. refl)
+      (inner-entry (lookedUp sp token .got) (lookedUp sp token .visits)) s
+
+  pub check-rights-told : (token required : ℕ) → Told mem s (checkRightsOut mem s token required .reply .answer)
+  unfolding checkRightsOut
+  check-rights-told token required =
+      told answerOf _ mem _ (λ a. refl) (inner-held required (lookedUp sp token .got) (lookedUp sp token .visits)) s
+
+  pub get-entry-told : (id : ℕ) → Told mem s (getEntryOut mem s id .answer)
+  unfolding getEntryOut when
+  get-entry-told id =
+      told (λ (r : EntryReply). r .answer) _ mem _ (λ a. refl)
+      (go (leb (2 ^ 48) id) (gotEntry sp id .got) (gotEntry sp id .visits)) s
+    where
+      go : (b : Bool) (got : Got) (visits : ℕ) → Inner (when b (noEntry BadField 0) (entryReply got visits) .answer)
+      go true got visits = inner BadField refl refl
+      go false got visits = inner-entry got visits
+
+  pub nth-entry-told : (n : ℕ) → Told mem s (nthEntryOut mem s n .answer)
+  unfolding nthEntryOut
+  nth-entry-told n =
+      told (λ (r : EntryReply). r .answer) _ mem _ (λ a. refl)
+      (inner-nth (nthOf (liveEntries (slotWords sp) 0 (tableOf sp .slots)) n)) s
+
+  pub insert-told : (token object rights : ℕ) → Told mem s (insertCallOut mem s token object rights .reply .answer)
+  unfolding insertCallOut
+  insert-told token object rights = told answerOf _ mem _ (λ a. refl) (inner-insert sp (newEntry token object rights)) s
+
+  pub remove-told : (token : ℕ) → Told mem s (removeOut mem s token .reply .answer)
+  unfolding removeOut
+  remove-told token =
+      told answerOf _ mem _ (λ a. refl) (inner-found (λ e. e .object) (lookedUp sp token .got) (lookedUp sp token .visits)) s
+
+  pub increment-told : Told mem s (incrementOut mem s .reply .answer)
+  unfolding incrementOut
+  increment-told = told answerOf _ mem _ (λ a. refl) inner-0 s
+
+  pub clear-told : Told mem s (clearOut mem s .reply .answer)
+  unfolding clearOut
+  clear-told = told answerOf _ mem _ (λ a. refl) inner-0 s
+
+  pub revoke-all-told : Told mem s (revokeAllOut mem s .reply .answer)
+  unfolding revokeAllOut
+  revoke-all-told = told answerOf _ mem _ (λ a. refl) inner-0 s
+
+  pub create-told : (rights object : ℕ) → Told mem s (createOut mem s rights object .reply .answer)
+  unfolding createOut
+  create-told rights object = told answerOf _ mem _ (λ a. refl) (taken (takenId d mem)) s
+    where
+      after : List ℕ
+      after = takeStep d mem
+
+      tokened : (id : ℕ) (m : Made) → Inner (createMade d s rights object id after m .reply .answer)
+      tokened id (Token t) = inner-insert (spaceOf d s after) (newEntry (t .0) object rights)
+      tokened id (Refused a) = inner SpaceIds refl refl
+
+      taken : (t : Taken) → Inner (createTaken d s rights object after t .reply .answer)
+      taken (Id id) = tokened id (made id (generationOf (spaceOf d s after)) 0 0)
+      taken Exhausted = inner SpaceIds refl refl
+
+  pub revoke-told : (id : ℕ) → Told mem s (revokeOut mem s id .reply .answer)
+  unfolding revokeOut
+  revoke-told id = told answerOf _ mem _ (λ a. refl) (go (ltb (2 ^ 48 - 1) id)) s
+    where
+      go :
+          (b : Bool)
+          → Inner (revokeMade d s mem (pick b (Refused BadField) (Token (record { 0 = packed id (generationOf sp) 0 0 }))) .reply .answer)
+      go true = inner BadField refl refl
+      go false =
+          let token : ℕ = packed id (generationOf sp) 0 0 in
+          inner-found (λ e. 0) (lookedUp sp token .got) (lookedUp sp token .visits)
+
+-- A call without a space is never answered 20.
+pub alloc-told : (mem : List ℕ) → (allocOut mem .reply .answer ≡ BadWorld) ↔ (¬ Sound mem)
+unfolding allocOut
+alloc-told mem = world-told answerOf _ mem _ (λ a. refl) (inner-taken (takenId (numbersOf mem) mem))
+
+-- A copy names two spaces: 20 where either is not there.
+pub copy-told :
+    (mem : List ℕ) (target source : ℕ)
+    → ((copyOut mem target source .reply .answer ≡ BadWorld) ↔ (¬ Sound mem))
+    × ((copyOut mem target source .reply .answer ≡ BadSpace)
+    ↔ (Sound mem × ((numbersOf mem .spaces ≤ target) ⊎ (numbersOf mem .spaces ≤ source))))
+unfolding copyOut when
+copy-told mem target source =
+    space-by-cases (λ (out : Left Reply). Both (out .reply .answer)) (refuse mem) mem _
+    (λ bad. (
+      (λ e. bad, λ b. refl),
+      (λ e. absurd (omega (arith, ap numberOf e)), λ (sound, far). absurd (bad sound)),
+    ))
+    target
+    (λ sound far. (
+      (λ e. absurd (omega (arith, ap numberOf e)), λ bad. absurd (bad sound)),
+      (λ e. (sound, inl far), λ any. refl),
+    ))
+    (λ sound valid. go sound valid _ (ltb source (d .spaces)) refl refl)
+  where
+    d : Numbers
+    d = numbersOf mem
+
+    Both : Answer → Type 0
+    Both a = ((a ≡ BadWorld) ↔ (¬ Sound mem)) × ((a ≡ BadSpace) ↔ (Sound mem × ((d .spaces ≤ target) ⊎ (d .spaces ≤ source))))
+
+    go :
+        Sound mem → target < d .spaces → (out : Left Reply) (b : Bool) → ltb source (d .spaces) ≡ b → out .reply .answer ≡ Done
+        → Both (when (not b) (refuse mem BadSpace) out .reply .answer)
+    go sound valid out true l is = (
+      (λ e. absurd (omega (arith, ap numberOf e, ap numberOf is)), λ bad. absurd (bad sound)),
+      (
+        λ e. absurd (omega (arith, ap numberOf e, ap numberOf is)),
+        λ (sound, far). absurd (⊎-elim (λ f. omega arith) (λ f. omega (arith, ltb-true source (d .spaces) l)) far),
+      ),
+    )
+    go sound valid out false l is = (
+      (λ e. absurd (omega (arith, ap numberOf e)), λ bad. absurd (bad sound)),
+      (λ e. (sound, inr (ltb-false source (d .spaces) l)), λ any. refl),
+    )

@@ -1,0 +1,157 @@
+-- The calls of a space: what each answers and leaves, on every memory and every argument. Document 01's order of refusals: 26, 20, 21,
+-- then the source's.
+use mathlib.Core.Bool.{not}
+use mathlib.Core.List.{List}
+use Prim.Native.Nat.{ℕ, _^_}
+use lib.Dec.{leb, ltb}
+use Rattle.answers.specs.declared.Answer.the-variants.{Done, IdExhausted, SpaceIds, BadSpace, BadField}
+use Rattle.base.specs.Choose.{when}
+use Rattle.space.specs.Change.{insertOut}
+use Rattle.space.specs.Lookup.{lookedUp, gotEntry}
+use Rattle.space.specs.Words.{generationOf, tableOf, slotWords}
+use Rattle.steps.specs.Enter.{onWorld, onSpace}
+use Rattle.steps.specs.Steps.{spaceOf, factsOf, lookupStep, nextStep, insertStep, removeStep, clearStep, copyStep, copiedOf, takenId, takeStep}
+use Rattle.steps.specs.declared.Taken.{Taken}
+use Rattle.steps.specs.declared.Taken.the-variants.{Id, Exhausted}
+use Rattle.table.specs.Copy.{nthOf}
+use Rattle.table.specs.Insert.{liveEntries}
+use Rattle.table.specs.declared.CapabilityEntry.{CapabilityEntry}
+use Rattle.token.specs.Token.{made}
+use Rattle.token.specs.declared.capability.Made.{Made}
+use Rattle.token.specs.declared.capability.Made.the-variants.{Token, Refused}
+use Rattle.world.specs.declared.Numbers.{Numbers}
+use Rattle.space_calls.specs.Replies.{Left, replied, done, refusal, refuse, rightsReply, objectReply, goneReply, heldReply, noEntry, entryReply, nthReply, noStats, insertReply}
+use Rattle.space_calls.specs.declared.EntryReply.{EntryReply}
+use Rattle.space_calls.specs.declared.Reply.{Reply}
+use Rattle.space_calls.specs.declared.StatsReply.{StatsReply}
+
+-- ---- what a space says of itself
+
+unfoldable pub usedOut : List ℕ → ℕ → Reply
+usedOut mem s = onSpace refusal mem s (λ d. done (factsOf (spaceOf d s mem) .used))
+
+unfoldable pub quotaOut : List ℕ → ℕ → Reply
+quotaOut mem s = onSpace refusal mem s (λ d. done (factsOf (spaceOf d s mem) .quota))
+
+unfoldable pub capacityOut : List ℕ → ℕ → Reply
+capacityOut mem s = onSpace refusal mem s (λ d. done (factsOf (spaceOf d s mem) .slots))
+
+unfoldable pub generationOut : List ℕ → ℕ → Reply
+generationOut mem s = onSpace refusal mem s (λ d. done (factsOf (spaceOf d s mem) .generation))
+
+unfoldable pub statsOut : List ℕ → ℕ → StatsReply
+statsOut mem s =
+    onSpace noStats mem s (λ d.
+    let f = factsOf (spaceOf d s mem) in
+    record { answer = Done; hits = f .hits; misses = f .misses; «total_caps» = f .used })
+
+-- ---- finding entries
+
+-- Lookup matches the whole token, and is counted: 8 for an absent one.
+unfoldable pub lookupOut : List ℕ → ℕ → ℕ → Left Reply
+lookupOut mem s token =
+    onSpace (refuse mem) mem s (λ d.
+    let l = lookedUp (spaceOf d s mem) token in
+    record { reply = rightsReply (l .got) (l .visits); memory = lookupStep d s token mem })
+
+-- The same with the whole entry, as it was before this use.
+unfoldable pub lookupEntryOut : List ℕ → ℕ → ℕ → Left EntryReply
+lookupEntryOut mem s token =
+    onSpace (λ a. record { reply = noEntry a 0; memory = mem }) mem s (λ d.
+    let l = lookedUp (spaceOf d s mem) token in
+    record { reply = entryReply (l .got) (l .visits); memory = lookupStep d s token mem })
+
+-- Whether the token is there with the rights: a lookup, counted as any.
+unfoldable pub checkRightsOut : List ℕ → ℕ → ℕ → ℕ → Left Reply
+checkRightsOut mem s token required =
+    onSpace (refuse mem) mem s (λ d.
+    let l = lookedUp (spaceOf d s mem) token in
+    record { reply = heldReply required (l .got) (l .visits); memory = lookupStep d s token mem })
+
+-- By the id alone, whatever its generation, not counted: 21 for an id over 2^48-1, 8 for an absent one.
+unfoldable pub getEntryOut : List ℕ → ℕ → ℕ → EntryReply
+getEntryOut mem s id =
+    onSpace (λ a. noEntry a 0) mem s (λ d.
+    let l = gotEntry (spaceOf d s mem) id in
+    when (leb (2 ^ 48) id) (noEntry BadField 0) (entryReply (l .got) (l .visits)))
+
+-- The n-th live entry in slot order, n from 0, 8 past the last.
+unfoldable pub nthEntryOut : List ℕ → ℕ → ℕ → EntryReply
+nthEntryOut mem s n =
+    onSpace (λ a. noEntry a 0) mem s (λ d.
+    let sp = spaceOf d s mem in
+    nthReply (nthOf (liveEntries (slotWords sp) 0 (tableOf sp .slots)) n))
+
+-- ---- changing a space
+
+-- A new entry has not been used.
+abbrev pub newEntry : ℕ → ℕ → ℕ → CapabilityEntry
+newEntry token object rights =
+    record { capability = record { 0 = token }; object = object; rights = record { 0 = rights }; uses = 0 }
+
+-- Insert tests quota (11), then the id (7).
+abbrev pub inserting : Numbers → ℕ → CapabilityEntry → ℕ → List ℕ → Left Reply
+inserting d s e value mem =
+    record { reply = insertReply value (insertOut (spaceOf d s mem) e); memory = insertStep d s e mem }
+
+unfoldable pub insertCallOut : List ℕ → ℕ → ℕ → ℕ → ℕ → Left Reply
+insertCallOut mem s token object rights = onSpace (refuse mem) mem s (λ d. inserting d s (newEntry token object rights) 0 mem)
+
+-- Only exactly the token removes its entry, whose object is the value.
+unfoldable pub removeOut : List ℕ → ℕ → ℕ → Left Reply
+removeOut mem s token =
+    onSpace (refuse mem) mem s (λ d.
+    let l = lookedUp (spaceOf d s mem) token in
+    record { reply = objectReply (l .got) (l .visits); memory = removeStep d s token mem })
+
+unfoldable pub incrementOut : List ℕ → ℕ → Left Reply
+incrementOut mem s = onSpace (refuse mem) mem s (λ d. record { reply = done 0; memory = nextStep d s mem })
+
+unfoldable pub clearOut : List ℕ → ℕ → Left Reply
+clearOut mem s = onSpace (refuse mem) mem s (λ d. record { reply = done 0; memory = clearStep d s mem })
+
+-- Clear, then the generation up by one.
+unfoldable pub revokeAllOut : List ℕ → ℕ → Left Reply
+revokeAllOut mem s = onSpace (refuse mem) mem s (λ d. record { reply = done 0; memory = nextStep d s (clearStep d s mem) })
+
+-- The target takes the source's entries; the value is how many it accepted, the count its moves.
+unfoldable pub copyOut : List ℕ → ℕ → ℕ → Left Reply
+copyOut mem target source =
+    onSpace (refuse mem) mem target (λ d.
+    let c = copiedOf d target source mem in
+    when (not (ltb source (d .spaces))) (refuse mem BadSpace)
+    (record { reply = replied Done (c .accepted) (c .moved); memory = copyStep d target source mem }))
+
+-- ---- ids
+
+-- `alloc_cap_id`: 9 where no id is left.
+abbrev pub takenReply : Taken → Reply
+takenReply (Id id) = done id
+takenReply Exhausted = refusal IdExhausted
+
+unfoldable pub allocOut : List ℕ → Left Reply
+allocOut mem = onWorld (refuse mem) mem (λ d. record { reply = takenReply (takenId d mem); memory = takeStep d mem })
+
+-- Space-made create: an id is taken (12 where none is left), and a token of it and the space's generation, type and flags 0, inserted.
+-- The value is the id, which is lost if the insert is refused.
+abbrev pub createMade : Numbers → ℕ → ℕ → ℕ → ℕ → List ℕ → Made → Left Reply
+createMade d s rights object id mem (Token t) = inserting d s (newEntry (t .0) object rights) id mem
+createMade d s rights object id mem (Refused a) = refuse mem SpaceIds
+
+abbrev pub createTaken : Numbers → ℕ → ℕ → ℕ → List ℕ → Taken → Left Reply
+createTaken d s rights object mem (Id id) = createMade d s rights object id mem (made id (generationOf (spaceOf d s mem)) 0 0)
+createTaken d s rights object mem Exhausted = refuse mem SpaceIds
+
+unfoldable pub createOut : List ℕ → ℕ → ℕ → ℕ → Left Reply
+createOut mem s rights object =
+    onSpace (refuse mem) mem s (λ d. createTaken d s rights object (takeStep d mem) (takenId d mem))
+
+-- Space revoke: exactly the token that the space would have made of the id leaves; 21 for an id over 2^48-1, 8 where it is absent.
+abbrev pub revokeMade : Numbers → ℕ → List ℕ → Made → Left Reply
+revokeMade d s mem (Token t) =
+    let l = lookedUp (spaceOf d s mem) (t .0) in
+    record { reply = goneReply (l .got) (l .visits); memory = removeStep d s (t .0) mem }
+revokeMade d s mem (Refused a) = refuse mem a
+
+unfoldable pub revokeOut : List ℕ → ℕ → ℕ → Left Reply
+revokeOut mem s id = onSpace (refuse mem) mem s (λ d. revokeMade d s mem (made id (generationOf (spaceOf d s mem)) 0 0))

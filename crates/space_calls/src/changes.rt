@@ -1,0 +1,135 @@
+// What changes a space: inserting, removing, clearing, copying, and its generation.
+ghost use mathlib.Core.Path.{_≡_};
+ghost use Prim.Native.Nat.{_<_};
+ghost use Rattle.steps.specs.Ready.{Ready};
+ghost use Rattle.space_calls.specs.Calls.{inserting, insertCallOut, removeOut, incrementOut, clearOut, revokeAllOut, copyOut, newEntry};
+use super::Reply;
+use super::replies::done;
+use super::replies::object_reply;
+use super::replies::refusal;
+use answers::Answer;
+use steps::Entered;
+use steps::enter::enter_space;
+use steps::spaces;
+use table::CapabilityEntry;
+use token::CapabilityToken;
+use token::Rights;
+use world::Numbers;
+
+// A new entry inserted; the value is answered if it is accepted.
+pub fn insert_new(
+    mem: &mut [u64],
+    d: Numbers,
+    s: usize,
+    token: CapabilityToken,
+    object: u64,
+    rights: Rights,
+    value: u64,
+) -> Reply
+    requires { ⌜ Ready d (now mem) × (s < d .spaces) ⌝ }
+    ensures { λ r. ⌜ record { reply = r; memory = now (mem .exit) } ≡ inserting d s (newEntry (token .0) object (rights .0)) value (now (mem .entry)) ⌝ }
+{
+    let entry = CapabilityEntry {
+        capability: token,
+        object,
+        rights,
+        uses: 0,
+    };
+    let r = spaces::insert(mem, d, s, entry);
+    let answer = r.answer;
+    if answer.number() == 0 {
+        return Reply {
+            answer,
+            value,
+            count: r.moved,
+        };
+    }
+    Reply {
+        answer,
+        value: 0,
+        count: r.moved,
+    }
+}
+
+pub fn insert(
+    mem: &mut [u64],
+    s: usize,
+    token: CapabilityToken,
+    object: u64,
+    rights: Rights,
+) -> Reply
+    ensures { λ r. ⌜ record { reply = r; memory = now (mem .exit) } ≡ insertCallOut (now (mem .entry)) s (token .0) object (rights .0) ⌝ }
+{
+    match enter_space(mem, s) {
+        Entered::Refused(answer) => refusal(answer),
+        Entered::Good(d) => insert_new(mem, d, s, token, object, rights, 0),
+    }
+}
+
+// The value is the object of the entry that left.
+pub fn remove(mem: &mut [u64], s: usize, token: CapabilityToken) -> Reply
+    ensures { λ r. ⌜ record { reply = r; memory = now (mem .exit) } ≡ removeOut (now (mem .entry)) s (token .0) ⌝ }
+{
+    match enter_space(mem, s) {
+        Entered::Refused(answer) => refusal(answer),
+        Entered::Good(d) => object_reply(spaces::remove(mem, d, s, token)),
+    }
+}
+
+pub fn increment_generation(mem: &mut [u64], s: usize) -> Reply
+    ensures { λ r. ⌜ record { reply = r; memory = now (mem .exit) } ≡ incrementOut (now (mem .entry)) s ⌝ }
+{
+    match enter_space(mem, s) {
+        Entered::Refused(answer) => refusal(answer),
+        Entered::Good(d) => {
+            spaces::next_generation(mem, d, s);
+            done(0)
+        }
+    }
+}
+
+pub fn clear(mem: &mut [u64], s: usize) -> Reply
+    ensures { λ r. ⌜ record { reply = r; memory = now (mem .exit) } ≡ clearOut (now (mem .entry)) s ⌝ }
+{
+    match enter_space(mem, s) {
+        Entered::Refused(answer) => refusal(answer),
+        Entered::Good(d) => {
+            spaces::clear(mem, d, s);
+            done(0)
+        }
+    }
+}
+
+// For process cleanup: the generation goes up, so that outstanding tokens of the space are stale.
+pub fn revoke_all(mem: &mut [u64], s: usize) -> Reply
+    ensures { λ r. ⌜ record { reply = r; memory = now (mem .exit) } ≡ revokeAllOut (now (mem .entry)) s ⌝ }
+{
+    match enter_space(mem, s) {
+        Entered::Refused(answer) => refusal(answer),
+        Entered::Good(d) => {
+            spaces::clear(mem, d, s);
+            spaces::next_generation(mem, d, s);
+            done(0)
+        }
+    }
+}
+
+// The source's `clone_from`: the target takes the source's entries, whatever its own quota.
+pub fn copy(mem: &mut [u64], target: usize, source: usize) -> Reply
+    ensures { λ r. ⌜ record { reply = r; memory = now (mem .exit) } ≡ copyOut (now (mem .entry)) target source ⌝ }
+{
+    match enter_space(mem, target) {
+        Entered::Refused(answer) => refusal(answer),
+        Entered::Good(d) => {
+            if d.spaces <= source {
+                return refusal(Answer::BadSpace);
+            }
+            let c = spaces::copy(mem, d, target, source);
+            Reply {
+                answer: Answer::Done,
+                value: c.accepted as u64,
+                count: c.moved,
+            }
+        }
+    }
+}

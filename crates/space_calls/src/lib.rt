@@ -1,0 +1,55 @@
+// The calls of a capability space: every public function of space.rs's `CapabilitySpace`, and `alloc_cap_id` of token.rs, on the world's
+// memory. No call asks anything of its arguments or of the memory: each looks first, and refuses by document 01's table.
+mod changes;
+mod entries;
+mod facts;
+mod ids;
+mod replies;
+
+use answers::Answer;
+pub use changes::clear;
+pub use changes::copy;
+pub use changes::increment_generation;
+pub use changes::insert;
+pub use changes::remove;
+pub use changes::revoke_all;
+pub use entries::check_rights;
+pub use entries::get_entry;
+pub use entries::lookup;
+pub use entries::lookup_entry;
+pub use entries::nth_entry;
+pub use facts::generation;
+pub use facts::quota;
+pub use facts::stats;
+pub use facts::table_capacity;
+pub use facts::used;
+pub use ids::alloc_cap_id;
+pub use ids::create_capability;
+pub use ids::revoke;
+use token::CapabilityToken;
+use token::Rights;
+
+// What a call answers: its answer, a value, 0 on a refusal, and the slots that its search visited or the entries that it moved.
+pub struct Reply {
+    pub answer: Answer,
+    pub value: u64,
+    pub count: usize,
+}
+
+// An entry for an answer, zeros on a refusal, and the slots that its search visited.
+pub struct EntryReply {
+    pub answer: Answer,
+    pub token: CapabilityToken,
+    pub object: u64,
+    pub rights: Rights,
+    pub uses: u64,
+    pub visits: usize,
+}
+
+// The statistics of a space, zeros on a refusal.
+pub struct StatsReply {
+    pub answer: Answer,
+    pub hits: u64,
+    pub misses: u64,
+    pub total_caps: u64,
+}

@@ -1,0 +1,159 @@
+// The answers of the calls, from what the steps found.
+ghost use mathlib.Core.Path.{_≡_};
+ghost use Rattle.space_calls.specs.Replies.{replied, refusal, done, rightsReply, objectReply, goneReply, heldReply, noEntry, wholeEntry, entryReply, nthReply, noStats};
+ghost use Rattle.space_calls.specs.Replies as spec;
+use super::EntryReply;
+use super::Reply;
+use super::StatsReply;
+use answers::Answer;
+use space::LookedUp;
+use table::CapabilityEntry;
+use table::Got;
+use table::Nth;
+use token::CapabilityToken;
+use token::Rights;
+
+pub fn refusal(answer: Answer) -> Reply
+    ensures { λ r. ⌜ r ≡ spec.refusal answer ⌝ }
+{
+    Reply {
+        answer,
+        value: 0,
+        count: 0,
+    }
+}
+
+pub fn done(value: u64) -> Reply
+    ensures { λ r. ⌜ r ≡ spec.done value ⌝ }
+{
+    Reply {
+        answer: Answer::Done,
+        value,
+        count: 0,
+    }
+}
+
+fn absent(visits: usize) -> Reply
+    ensures { λ r. ⌜ r ≡ replied Answer.NotFound 0 visits ⌝ }
+{
+    Reply {
+        answer: Answer::NotFound,
+        value: 0,
+        count: visits,
+    }
+}
+
+fn found(value: u64, visits: usize) -> Reply
+    ensures { λ r. ⌜ r ≡ replied Answer.Done value visits ⌝ }
+{
+    Reply {
+        answer: Answer::Done,
+        value,
+        count: visits,
+    }
+}
+
+pub fn rights_reply(l: LookedUp) -> Reply
+    ensures { λ r. ⌜ r ≡ rightsReply (l .got) (l .visits) ⌝ }
+{
+    let got = l.got;
+    match got {
+        Got::Entry(entry) => {
+            let rights = entry.rights;
+            found(rights.0 as u64, l.visits)
+        }
+        Got::Nothing => absent(l.visits),
+    }
+}
+
+pub fn object_reply(l: LookedUp) -> Reply
+    ensures { λ r. ⌜ r ≡ objectReply (l .got) (l .visits) ⌝ }
+{
+    let got = l.got;
+    match got {
+        Got::Entry(entry) => found(entry.object, l.visits),
+        Got::Nothing => absent(l.visits),
+    }
+}
+
+pub fn gone_reply(l: LookedUp) -> Reply
+    ensures { λ r. ⌜ r ≡ goneReply (l .got) (l .visits) ⌝ }
+{
+    let got = l.got;
+    match got {
+        Got::Entry(_) => found(0, l.visits),
+        Got::Nothing => absent(l.visits),
+    }
+}
+
+pub fn held_reply(l: LookedUp, required: Rights) -> Reply
+    ensures { λ r. ⌜ r ≡ heldReply (required .0) (l .got) (l .visits) ⌝ }
+{
+    let got = l.got;
+    let Got::Entry(entry) = got else {
+        return found(0, l.visits);
+    };
+    let rights = entry.rights;
+    if rights.contains(required) {
+        return found(1, l.visits);
+    }
+    found(0, l.visits)
+}
+
+pub fn no_entry(answer: Answer, visits: usize) -> EntryReply
+    ensures { λ r. ⌜ r ≡ noEntry answer visits ⌝ }
+{
+    EntryReply {
+        answer,
+        token: CapabilityToken(0),
+        object: 0,
+        rights: Rights(0),
+        uses: 0,
+        visits,
+    }
+}
+
+fn whole_entry(entry: CapabilityEntry, visits: usize) -> EntryReply
+    ensures { λ r. ⌜ r ≡ wholeEntry entry visits ⌝ }
+{
+    let capability = entry.capability;
+    let rights = entry.rights;
+    EntryReply {
+        answer: Answer::Done,
+        token: capability,
+        object: entry.object,
+        rights,
+        uses: entry.uses,
+        visits,
+    }
+}
+
+pub fn entry_reply(l: LookedUp) -> EntryReply
+    ensures { λ r. ⌜ r ≡ entryReply (l .got) (l .visits) ⌝ }
+{
+    let got = l.got;
+    match got {
+        Got::Entry(entry) => whole_entry(entry, l.visits),
+        Got::Nothing => no_entry(Answer::NotFound, l.visits),
+    }
+}
+
+pub fn nth_reply(nth: Nth) -> EntryReply
+    ensures { λ r. ⌜ r ≡ nthReply nth ⌝ }
+{
+    match nth {
+        Nth::Entry(entry) => whole_entry(entry, 0),
+        Nth::Past => no_entry(Answer::NotFound, 0),
+    }
+}
+
+pub fn no_stats(answer: Answer) -> StatsReply
+    ensures { λ r. ⌜ r ≡ noStats answer ⌝ }
+{
+    StatsReply {
+        answer,
+        hits: 0,
+        misses: 0,
+        total_caps: 0,
+    }
+}
