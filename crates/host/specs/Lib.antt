@@ -1,2 +1,3 @@
 -- What the contracts of `host` cite beside those of the crates that it exports.
 pub mod Answered
+pub mod Spaces

@@ -2,5 +2,6 @@
 // Each is one call, and its contract cites the same definition as the function's own.
 mod flags;
 mod rights;
+mod spaces;
 mod tokens;
 mod worlds;
