@@ -20,7 +20,7 @@ pub enum Argument {
     Flag,
     /// Up to 16 flags, one a hex digit, the first lowest; the digit 0 ends the list.
     Flags,
-    /// Which of the nine constants of `Rights`.
+    /// 8 bits: which of the nine constants of `Rights`, or past the last.
     Constant,
 }
 
@@ -32,9 +32,8 @@ impl Argument {
             Argument::Unread => vec![0, u64::MAX],
             Argument::Byte | Argument::Nibble => vec![0, 1, 2, 14, 15, 16, 17, 127, 128, 254, 255],
             Argument::Rights => around_powers(32),
-            Argument::Flag => (0..=255).collect(),
+            Argument::Flag | Argument::Constant => (0..=255).collect(),
             Argument::Flags => (0..=0xFFFF).collect(),
-            Argument::Constant => (0..=8).collect(),
         }
     }
 
@@ -48,7 +47,8 @@ impl Argument {
             Argument::Rights => vec![0, 1, 8, 15, 16, 255, 1 << 16, 1 << 31, u32::MAX.into()],
             Argument::Flag => vec![0, 1, 2, 3, 4, 8, 9, 255],
             Argument::Flags => vec![0, 1, 0x8421, 0x1248, 0x11, 0x3, 0x14, 0x801, 0x31, u64::MAX / 15],
-            Argument::Unread | Argument::Constant => self.limits(),
+            Argument::Constant => (0..=8).collect(),
+            Argument::Unread => self.limits(),
         }
     }
 
@@ -100,6 +100,23 @@ pub fn random_arguments(arguments: &[Argument], random: &mut Random) -> [u64; 4]
         *word = argument.random(random);
     }
     words
+}
+
+/// Lists of at most two bytes, whatever they are.
+pub fn short_byte_lists() -> impl Iterator<Item = Vec<u8>> {
+    let ones = (0..=255).map(|byte| vec![byte]);
+    let twos = (0..=255).flat_map(|first| (0..=255).map(move |second| vec![first, second]));
+    [vec![]].into_iter().chain(ones).chain(twos)
+}
+
+/// Up to 32 flags' numbers, or one time in two with one byte among them that may be any other.
+pub fn random_byte_list(random: &mut Random) -> Vec<u8> {
+    let mut bytes: Vec<u8> = (0..random.below(33)).map(|_| 1 << random.below(4)).collect();
+    if !bytes.is_empty() && random.below(2) == 0 {
+        let place = random.below(bytes.len() as u64);
+        bytes[place as usize] = random.below(256) as u8;
+    }
+    bytes
 }
 
 /// Each power of two below the width, its neighbours, all bits but that one, and all bits.

@@ -42,6 +42,15 @@ impl History {
             revocation: revocation::view(),
         }
     }
+
+    /// Takes over what a view shows, one of as many spaces.
+    pub fn put(&mut self, view: &View) {
+        for (space, view) in self.spaces.iter_mut().zip(&view.spaces) {
+            space.put(view);
+        }
+        cap_manager().put(&view.manager);
+        revocation::put(&view.revocation);
+    }
 }
 
 impl Drop for History {

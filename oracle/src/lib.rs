@@ -21,6 +21,7 @@ mod tally;
 pub use tally::{Tally, Test};
 
 pub mod arguments;
+pub mod memory;
 #[cfg(feature = "port")]
 pub mod port_table;
 pub mod token_calls;

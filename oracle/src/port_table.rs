@@ -4,6 +4,7 @@
 //! The declarations keep to what tools/native says holds on both processors.
 
 use crate::cap::space::{EntryView, SlotView};
+use crate::memory;
 
 /// A search's end: the slot, or all ones where the id is absent, and the slots visited.
 #[repr(C)]
@@ -129,15 +130,9 @@ impl PortTable {
         [slots, full, tombstones]
     }
 
-    /// Slot `i` by the layout of its four words; nothing where its kind is none of the three.
+    /// Slot `i`; nothing where its kind is none of the three.
     pub fn slot(&self, i: usize) -> Option<SlotView> {
-        let [token, object, uses, tag] = *self.words[4 * i..self.length].first_chunk()?;
-        match tag >> 32 {
-            0 => Some(SlotView::Empty),
-            1 => Some(SlotView::Tombstone),
-            2 => Some(SlotView::Full(EntryView { token, object, rights: tag as u32, uses })),
-            _ => None,
-        }
+        memory::slot(self.words[4 * i..self.length].first_chunk()?)
     }
 
     /// The lent words and the numbers, to be damaged.

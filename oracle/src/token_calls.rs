@@ -40,6 +40,9 @@ const fn function(name: &'static str, arguments: &'static [Argument], original: 
     Function { name, arguments, original }
 }
 
+/// The name of the one function of a list, which the live comparison also calls on lists that no word holds.
+pub const COMBINE: &str = "CapabilityFlags::combine";
+
 /// In the source's order. A call's number is its place, from 1.
 pub const FUNCTIONS: [Function; 28] = [
     function("CapabilityToken::new", &[Id, Byte, Nibble, Nibble], |[id, generation, kind, flags]| {
@@ -63,11 +66,10 @@ pub const FUNCTIONS: [Function; 28] = [
     function("CapabilityFlags::has", &[Byte, Flag], |[flags, perm, ..]| {
         flag(perm).map_or(BAD_FIELD, |perm| done(CapabilityFlags::has(flags as u8, perm)))
     }),
-    function("CapabilityFlags::combine", &[Flags], |[list, ..]| {
-        let flags: Option<Vec<CapabilityFlags>> = listed(list).map(flag).collect();
-        flags.map_or(BAD_FIELD, |flags| done(CapabilityFlags::combine(&flags)))
+    function(COMBINE, &[Flags], |[list, ..]| combine(&listed(list))),
+    function("Rights constants", &[Constant], |[number, ..]| {
+        done(CONSTANTS.get(number as usize).copied().unwrap_or(Set::empty()).word())
     }),
-    function("Rights constants", &[Constant], |[number, ..]| done(CONSTANTS[number as usize].word())),
     function("Rights::new", &[Rights], |[a, ..]| done(set(a).word())),
     function("Rights::contains", &[Rights, Rights], |[a, b, ..]| done(set(a).contains(set(b)))),
     function("Rights::intersection", &[Rights, Rights], |[a, b, ..]| done(set(a).intersection(set(b)).word())),
@@ -115,7 +117,13 @@ fn flag(number: u64) -> Option<CapabilityFlags> {
     [Read, Write, Execute, Grant].into_iter().find(|&flag| flag as u64 == number)
 }
 
+/// The flags of these numbers combined; 21 if one of them is no flag's.
+pub fn combine(numbers: &[u8]) -> Outcome {
+    let flags: Option<Vec<CapabilityFlags>> = numbers.iter().map(|&number| flag(number.into())).collect();
+    flags.map_or(BAD_FIELD, |flags| done(CapabilityFlags::combine(&flags)))
+}
+
 /// The numbers of a list of flags: the word's hex digits from the low end, up to the first 0.
-pub fn listed(list: u64) -> impl Iterator<Item = u64> {
-    (0..16).map(move |place| list >> (4 * place) & 15).take_while(|&digit| digit != 0)
+pub fn listed(list: u64) -> Vec<u8> {
+    (0..16).map(|place| (list >> (4 * place) & 15) as u8).take_while(|&digit| digit != 0).collect()
 }

@@ -11,7 +11,7 @@ pub struct RegisteredView {
 }
 
 /// Registered ids ascend, and so do the recycled ones.
-#[derive(Debug, Clone, PartialEq, Eq)]
+#[derive(Debug, Default, Clone, PartialEq, Eq)]
 pub struct ManagerView {
     pub registry: Vec<RegisteredView>,
     pub next_id: u64,
@@ -42,21 +42,30 @@ impl CapabilityManager {
         }
     }
 
-    /// Back to the state of a new process.
-    pub fn reset(&self) {
-        self.registry.write().clear();
-        self.id_allocator.recycled.write().clear();
-        self.id_allocator.recycled_len.store(0, Ordering::Release);
-        self.id_allocator.next_id.store(1, Ordering::Relaxed);
-        self.global_generation.store(0, Ordering::Relaxed);
-        self.stats.capabilities_created.store(0, Ordering::Relaxed);
-        self.stats.capabilities_delegated.store(0, Ordering::Relaxed);
-        self.stats.capabilities_revoked.store(0, Ordering::Relaxed);
-        self.stats.capabilities_deleted.store(0, Ordering::Relaxed);
+    /// Takes over what a view shows, so that a history can begin anywhere.
+    pub fn put(&self, view: &ManagerView) {
+        let registered = |e: &RegisteredView| {
+            let entry = RegistryEntry {
+                object: ObjectRef { identity: e.object, valid: true, type_code: 0 },
+                generation: AtomicU8::new(e.generation),
+                revoked: e.revoked,
+                holders: AtomicU32::new(e.holders),
+            };
+            (e.id, entry)
+        };
+        *self.registry.write() = view.registry.iter().map(registered).collect();
+        *self.id_allocator.recycled.write() = view.recycled.iter().copied().collect();
+        self.id_allocator.recycled_len.store(view.recycled.len(), Ordering::Release);
+        self.id_allocator.next_id.store(view.next_id, Ordering::Relaxed);
+        self.stats.capabilities_created.store(view.created, Ordering::Relaxed);
+        self.stats.capabilities_delegated.store(view.delegated, Ordering::Relaxed);
+        self.stats.capabilities_revoked.store(view.revoked, Ordering::Relaxed);
+        self.stats.capabilities_deleted.store(view.deleted, Ordering::Relaxed);
     }
 
-    /// Sets the next id, so that a history can reach the last one.
-    pub fn set_next_id(&self, next: u64) {
-        self.id_allocator.next_id.store(next, Ordering::Relaxed);
+    /// Back to the state of a new process.
+    pub fn reset(&self) {
+        self.put(&ManagerView { next_id: 1, ..ManagerView::default() });
+        self.global_generation.store(0, Ordering::Relaxed);
     }
 }

@@ -9,7 +9,7 @@ pub struct QueueView {
 
 /// The tree by ascending parent, each list in its own order; the set ascends, the log has the same
 /// pairs in the order of arrival; queues by ascending pid.
-#[derive(Debug, Clone, PartialEq, Eq)]
+#[derive(Debug, Default, Clone, PartialEq, Eq)]
 pub struct RevocationView {
     pub tree: Vec<(u64, Vec<u64>)>,
     pub set: Vec<(u64, u8)>,
@@ -33,16 +33,18 @@ pub fn view() -> RevocationView {
     }
 }
 
-/// Back to the state of a new process.
-pub fn reset() {
-    DERIVATION_TREE.write().clear();
-    REVOCATION_LIST.revoked.write().clear();
-    REVOCATION_LIST.log.write().clear();
-    REVOCATION_LIST.epoch.store(0, Ordering::SeqCst);
-    REVOCATION_QUEUE.write().clear();
+/// Takes over what a view shows, so that a history can begin anywhere.
+pub fn put(view: &RevocationView) {
+    let notice = |&(cap_id, revoked_at, reason): &_| RevocationNotification { cap_id, revoked_at, reason };
+    *DERIVATION_TREE.write() = view.tree.iter().cloned().collect();
+    *REVOCATION_LIST.revoked.write() = view.set.iter().copied().collect();
+    *REVOCATION_LIST.log.write() = view.log.clone();
+    REVOCATION_LIST.epoch.store(view.epoch, Ordering::SeqCst);
+    *REVOCATION_QUEUE.write() =
+        view.queues.iter().map(|q| (q.pid, q.notices.iter().map(notice).collect())).collect();
 }
 
-/// Sets the epoch, so that a history can begin just below where it wraps.
-pub fn set_epoch(epoch: u64) {
-    REVOCATION_LIST.epoch.store(epoch, Ordering::SeqCst);
+/// Back to the state of a new process.
+pub fn reset() {
+    put(&RevocationView::default());
 }

@@ -43,6 +43,14 @@ impl CapabilityEntry {
             uses: self.usage_count.load(Ordering::Relaxed),
         }
     }
+
+    fn of(view: &EntryView) -> Self {
+        let object = ObjectRef { identity: view.object, valid: true, type_code: 0 };
+        Self {
+            usage_count: AtomicU64::new(view.uses),
+            ..Self::new(CapabilityToken::from_u64(view.token), object, Rights::new(view.rights))
+        }
+    }
 }
 
 impl Slot {
@@ -53,11 +61,23 @@ impl Slot {
             Slot::Full(e) => SlotView::Full(e.view()),
         }
     }
+
+    fn of(view: &SlotView) -> Self {
+        match view {
+            SlotView::Empty => Slot::Empty,
+            SlotView::Tombstone => Slot::Tombstone,
+            SlotView::Full(e) => Slot::Full(CapabilityEntry::of(e)),
+        }
+    }
 }
 
 impl CapTable {
     fn view(&self) -> TableView {
         TableView { slots: self.slots.iter().map(Slot::view).collect(), full: self.full, tombstones: self.tombstones }
+    }
+
+    fn of(view: &TableView) -> Self {
+        Self { slots: view.slots.iter().map(Slot::of).collect(), full: view.full, tombstones: view.tombstones }
     }
 
     /// How many slots `find` looks at.
@@ -71,6 +91,12 @@ impl CapTable {
             (0..=mask).map(|step| (home + step) & mask).find(|&i| matches!(self.slots[i], Slot::Empty)).unwrap()
         });
         (end.wrapping_sub(home) & mask) + 1
+    }
+
+    /// How many entries are moved while a copy of this table is made.
+    fn moved_by_copy(&self) -> usize {
+        let mut copy = BareTable::new();
+        self.entries().map(|e| copy.insert_new(e.clone())).sum()
     }
 }
 
@@ -137,10 +163,8 @@ impl BareTable {
         self.in_space(|space| space.clone_from(space).unwrap());
     }
 
-    /// How many entries are moved while a copy of this table is made.
     pub fn moved_by_copy(&self) -> usize {
-        let mut copy = Self::new();
-        self.0.entries().map(|e| copy.insert_new(e.clone())).sum()
+        self.0.moved_by_copy()
     }
 
     fn in_space<R>(&mut self, call: impl FnOnce(&CapabilitySpace) -> R) -> R {
@@ -178,27 +202,33 @@ impl CapabilitySpace {
         }
     }
 
+    /// Takes over what a view shows, so that a history can begin anywhere.
+    pub fn put(&mut self, view: &SpaceView) {
+        *self.table.get_mut() = CapTable::of(&view.table);
+        self.generation.store(view.generation, Ordering::SeqCst);
+        self.quota = view.quota;
+        self.used.store(view.used, Ordering::Relaxed);
+        self.stats.total_caps.store(view.total_caps, Ordering::Relaxed);
+        self.stats.hits.store(view.hits, Ordering::Relaxed);
+        self.stats.misses.store(view.misses, Ordering::Relaxed);
+    }
+
+    /// `table_capacity`, which the source's own crate alone can call.
+    pub fn capacity(&self) -> usize {
+        self.table_capacity()
+    }
+
     /// How many slots a search for `id` looks at.
     pub fn visits(&self, id: u64) -> usize {
         self.table.read().visits(id)
     }
 
+    pub fn moved_by_copy(&self) -> usize {
+        self.table.read().moved_by_copy()
+    }
+
     /// Where the slots stand: it changes exactly at a rebuild (see `BareTable::insert_new`).
     pub fn slots_address(&self) -> usize {
         self.table.read().slots.as_ptr() as usize
-    }
-
-    /// Sets the counters, so that a history can begin just below where they wrap.
-    pub fn set_counters(&self, generation: u8, hits: u64, misses: u64) {
-        self.generation.store(generation, Ordering::SeqCst);
-        self.stats.hits.store(hits, Ordering::Relaxed);
-        self.stats.misses.store(misses, Ordering::Relaxed);
-    }
-
-    /// Sets the use count of the entry with `id`, if there is one.
-    pub fn set_uses(&self, id: u64, uses: u64) {
-        if let Some(entry) = self.table.read().get(id) {
-            entry.usage_count.store(uses, Ordering::Relaxed);
-        }
     }
 }

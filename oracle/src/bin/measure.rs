@@ -1,7 +1,8 @@
-//! The port's table and the original's, timed in one process. Prints a Markdown table.
+//! The port's table and the original's, timed in one process. Prints a line a row for tools/measure: operation, live
+//! entries, and the nanoseconds of one operation on each side.
 //!
-//! A run is a batch of operations on one side; the two sides run in turn, so that what else the machine
-//! does meets both, and each figure is the median of its runs. Both sides are calls that are not inlined.
+//! A run is a batch of operations on one side; the two sides run in turn, and each figure is the least of
+//! its runs, so that what else the machine does stays out of it. Both sides are calls that are not inlined.
 
 use std::hint::black_box;
 use std::time::Instant;
@@ -12,7 +13,20 @@ use oracle::cap::space::{BareTable, CapabilityEntry, EntryView};
 use oracle::cap::token::{CapabilityToken, Rights};
 use oracle::port_table::PortTable;
 
-const RUNS: usize = 1001;
+// Where code stands in a cache line moves figures as small as these. So tools/measure builds this program for four
+// placements, in each of which all code behind these bytes stands 16 bytes further on.
+const PLACEMENT: usize = match option_env!("STONESPRY_PLACEMENT") {
+    Some(digit) => (digit.as_bytes()[0] - b'0') as usize,
+    None => 0,
+};
+std::arch::global_asm!(
+    ".pushsection .text.placement, \"axR\", @progbits",
+    ".skip 16 * {}",
+    ".popsection",
+    const PLACEMENT,
+);
+
+const RUNS: usize = 301;
 /// Operations of a batch, at least.
 const BATCH: usize = 1024;
 
@@ -75,7 +89,8 @@ impl Table for BareTable {
     }
 }
 
-/// A measurement on one side: `prepare` is not timed, `run` is.
+/// A measurement on one side: `prepare` is not timed, `run` is. Each `run` is a function of its own, so that
+/// what stands around it takes no register from its loop.
 trait Batch {
     fn prepare(&mut self);
     fn run(&mut self);
@@ -91,6 +106,7 @@ impl<T: Table> Batch for Insert<T> {
         self.tables.iter_mut().for_each(T::clear);
     }
 
+    #[inline(never)]
     fn run(&mut self) {
         for table in &mut self.tables {
             fill(table, &self.ids);
@@ -106,6 +122,7 @@ struct Find<T> {
 impl<T: Table> Batch for Find<T> {
     fn prepare(&mut self) {}
 
+    #[inline(never)]
     fn run(&mut self) {
         for &id in &self.ids {
             self.table.find(id);
@@ -127,6 +144,7 @@ impl<T: Table> Batch for Remove<T> {
         }
     }
 
+    #[inline(never)]
     fn run(&mut self) {
         for table in &mut self.tables {
             self.shuffled.iter().for_each(|&id| table.remove(id));
@@ -155,6 +173,7 @@ impl<T: Table> Batch for Churn<T> {
         }
     }
 
+    #[inline(never)]
     fn run(&mut self) {
         for table in &mut self.tables {
             for next in self.next..self.next + self.pairs {
@@ -196,20 +215,15 @@ fn time(batch: &mut impl Batch) -> f64 {
     start.elapsed().as_nanos() as f64
 }
 
-fn median(mut times: Vec<f64>) -> f64 {
-    times.sort_by(f64::total_cmp);
-    times[times.len() / 2]
-}
-
 /// One line: both sides in turn, so many operations a batch.
 fn line(name: &str, live: usize, operations: usize, mut port: impl Batch, mut original: impl Batch) {
-    let (mut ours, mut theirs) = (Vec::new(), Vec::new());
+    let (mut ours, mut theirs) = (f64::INFINITY, f64::INFINITY);
     for _ in 0..RUNS {
-        ours.push(time(&mut port));
-        theirs.push(time(&mut original));
+        ours = ours.min(time(&mut port));
+        theirs = theirs.min(time(&mut original));
     }
-    let (ours, theirs) = (median(ours) / operations as f64, median(theirs) / operations as f64);
-    println!("| {name} | {live} | {ours:.1} | {theirs:.1} | {:.2} |", ours / theirs);
+    let (ours, theirs) = (ours / operations as f64, theirs / operations as f64);
+    println!("{name}\t{live}\t{ours:.3}\t{theirs:.3}");
 }
 
 fn insert(live: usize) {
@@ -250,8 +264,6 @@ fn churn(name: &str, live: usize, anew: bool) {
 }
 
 fn main() {
-    println!("| Operation | Live entries | Port, ns | Rust, ns | Port / Rust |");
-    println!("|---|---|---|---|---|");
     let mut random = Random::new(1);
     let sizes = [8, 64, 256];
     for live in sizes {

@@ -72,7 +72,7 @@ fn rows_of_the_table(tally: &mut Tally) {
 fn rows_of_the_world(tally: &mut Tally) {
     tally.test("P8", |t| {
         let _history = History::open(&[]);
-        cap_manager().set_next_id((1 << 48) - 1);
+        cap_manager().put(&ManagerView { next_id: (1 << 48) - 1, ..cap_manager().view() });
         t.same("the last id", Ok((1 << 48) - 1), alloc_cap_id());
         t.same("past it", Err(CapAllocError::IdExhausted), alloc_cap_id());
     });

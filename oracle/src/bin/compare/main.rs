@@ -1,7 +1,9 @@
 //! compare SUBJECT: the port, linked as its native static libraries, against the original.
 
+mod kinds;
 mod port;
 mod sound;
+mod space;
 mod table;
 mod token;
 
@@ -15,8 +17,9 @@ fn main() -> ExitCode {
     match env::args().nth(1).as_deref() {
         Some("token") => token::compare(&mut tally),
         Some("table") => table::compare(&mut tally),
+        Some("space") => space::compare(&mut tally),
         _ => {
-            eprintln!("usage: compare token|table");
+            eprintln!("usage: compare token|table|space");
             return ExitCode::from(2);
         }
     }

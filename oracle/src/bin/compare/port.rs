@@ -71,7 +71,7 @@ pub const TOKEN: [fn([u64; 4]) -> Outcome; 28] = [
         let HasAnswer { answer, has } = stonespry_flags_has(flags as u8, number as u8);
         Outcome { answer, value: has.into() }
     },
-    |[list, ..]| combine(list),
+    |[list, ..]| combine(&listed(list)),
     |[number, ..]| done(stonespry_rights_constant(number as u8)),
     |[a, ..]| done(stonespry_rights_new(a as u32)),
     |[a, b, ..]| done(stonespry_rights_contains(a as u32, b as u32)),
@@ -97,8 +97,7 @@ fn made(TokenAnswer { answer, token }: TokenAnswer) -> Outcome {
     Outcome { answer, value: token }
 }
 
-fn combine(list: u64) -> Outcome {
-    let numbers: Vec<u8> = listed(list).map(|digit| digit as u8).collect();
+pub fn combine(numbers: &[u8]) -> Outcome {
     // The slice is alive and not written while the call runs.
     let FlagsAnswer { answer, flags } = unsafe { stonespry_flags_combine(numbers.as_ptr(), numbers.len()) };
     Outcome { answer, value: flags.into() }

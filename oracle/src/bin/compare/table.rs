@@ -3,7 +3,6 @@
 //! and the port's is sound. Then damaged tables, against the rules of soundness written out.
 
 use std::ops::RangeInclusive;
-use std::panic::{catch_unwind, resume_unwind, AssertUnwindSafe};
 use std::sync::atomic::AtomicU64;
 
 use oracle::arguments::Random;
@@ -13,6 +12,7 @@ use oracle::cap::token::{CapabilityToken, Rights};
 use oracle::port_table::{Ended, PortTable};
 use oracle::{Tally, Test};
 
+use crate::kinds;
 use crate::sound::is_sound;
 
 const SEED: u64 = 0x5354_4F4E_4553_5052;
@@ -46,17 +46,9 @@ const KINDS: [(&str, Kind); 19] = [
 pub fn compare(tally: &mut Tally) {
     println!("space.rs, the table: random histories, each from seed {SEED:#x}");
     for (name, kind) in KINDS {
-        tally.test(name, |test| {
-            let ended = catch_unwind(AssertUnwindSafe(|| kind(test, &mut Random::new(SEED))));
-            if let Err(why) = ended {
-                why.downcast::<Apart>().unwrap_or_else(|why| resume_unwind(why));
-            }
-        });
+        kinds::test(tally, name, |test| kind(test, &mut Random::new(SEED)));
     }
 }
-
-/// Ends a kind's histories where the two sides differ: what follows would say nothing.
-struct Apart;
 
 // ---- One table on both sides
 
@@ -91,9 +83,7 @@ impl Both {
         let expected = (expected, original.counts(), differs.map(|i| (i, Some(original.slot(i)))), true);
         let answered = (answered, port.counts(), differs.map(|i| (i, port.slot(i))), good);
         test.same(operation, expected, answered);
-        if test.differs() {
-            resume_unwind(Box::new(Apart));
-        }
+        kinds::end_if_apart(test);
     }
 
     fn find(&self, test: &mut Test, id: u64) {
@@ -235,7 +225,7 @@ fn one_home(test: &mut Test, random: &mut Random, slots: usize) {
 }
 
 /// As many ids with this home in this many slots, from `first` on.
-fn ids_at(home: usize, slots: usize, first: u64, count: usize) -> Vec<u64> {
+pub fn ids_at(home: usize, slots: usize, first: u64, count: usize) -> Vec<u64> {
     let spread = |id: u64| (id.wrapping_mul(0x9E37_79B9_7F4A_7C15) >> 32) as usize;
     (first..).filter(|&id| spread(id) % slots == home).take(count).collect()
 }

@@ -1,11 +1,11 @@
 //! Every function of token.rs on both sides: on all combinations of its arguments' limits, and on
-//! random arguments.
+//! random arguments; `combine` on lists of any bytes besides.
 
 use std::panic;
 
-use oracle::arguments::{all_limits, random_arguments, Random};
-use oracle::token_calls::FUNCTIONS;
-use oracle::Tally;
+use oracle::arguments::{all_limits, random_arguments, random_byte_list, short_byte_lists, Random};
+use oracle::token_calls::{combine, COMBINE, FUNCTIONS};
+use oracle::{Tally, Test};
 
 use crate::port;
 
@@ -27,7 +27,17 @@ pub fn compare(tally: &mut Tally) {
                 let words = random_arguments(function.arguments, &mut random);
                 test.same(words, (function.original)(words), port(words));
             }
+            if function.name == COMBINE {
+                byte_lists(test, &mut random);
+            }
         });
     }
     drop(panic::take_hook());
+}
+
+fn byte_lists(test: &mut Test, random: &mut Random) {
+    let random_lists = (0..RANDOM_CALLS).map(|_| random_byte_list(random));
+    for bytes in short_byte_lists().chain(random_lists) {
+        test.same(&bytes, combine(&bytes), port::combine(&bytes));
+    }
 }
