@@ -16,6 +16,10 @@ use Rattle.base.specs.Exactly.{tests}
 abbrev pub Differ : ℕ → (ℕ → ℕ) → Type 0
 Differ n f = (j : ℕ) → j < n → (i : ℕ) → i < j → f i ≡ f j → ⊥
 
+-- x is one of f 0, .., f (n - 1).
+abbrev pub Among : ℕ → (ℕ → ℕ) → ℕ → Type 0
+Among n f x = (k : ℕ) × ((k < n) × (f k ≡ x))
+
 -- The value at j stands at no place before j.
 unfoldable pub isNew : (ℕ → ℕ) → ℕ → Bool
 isNew f j = all j (λ i. not (eqb (f i) (f j)))

@@ -1,12 +1,14 @@
 -- Laws of `first`: it is at most n, below n it passes, and what stands before it fails; what has these three is it. Then the turns of
 -- a loop that looks for it, in terms of `firstFrom`.
 use mathlib.Core.Path.{_≡_, refl, sym, ap₂, _∙_}
-use mathlib.Core.Logic.{⊎-elim}
+use mathlib.Core.Logic.{_↔_, ⊎-elim}
 use mathlib.Core.Bool.{Bool, true, false, true≢false}
 use Prim.Native.Nat.{ℕ, zero, suc, _+_, _-_, _<_, _≤_}
 use native.Mathlib.Nat.{eq-or-lt-of-le, sub-zero}
 use native.Mathlib.Numerals.{add-one}
 use native.Mathlib.Omega.{arith}
+use borrow.Author.Tests.{ltb-true, lt-ltb, le-ltb}
+use lib.Dec.{ltb}
 use Rattle.base.specs.Choose.{pick}
 use Rattle.base.specs.Below.{firstFrom, first}
 
@@ -151,3 +153,18 @@ pub first-up-done : (p : ℕ → Bool) (n t r : ℕ) → r ≡ firstFrom p (n - 
 first-up-done p n t r e l = sym (e ∙ from-none p (n - t) t (omega arith))
 
 pub ruleset first-up = (first-up-start, first-up-found, first-up-next, first-up-done)
+
+-- The same loop where only is asked whether one passes, and what its answer says.
+pub some-up-found : (p : ℕ → Bool) (n t : ℕ) → first p n ≡ firstFrom p (n - t) t → t < n → p t ≡ true → true ≡ ltb (first p n) n
+some-up-found p n t e l h = sym (lt-ltb (first p n) n (omega (arith, first-le-of p n t l h)))
+
+pub some-up-done : (p : ℕ → Bool) (n t : ℕ) → first p n ≡ firstFrom p (n - t) t → n ≤ t → false ≡ ltb (first p n) n
+some-up-done p n t e u = sym (le-ltb (first p n) n (omega (arith, first-up-done p n t (first p n) e u)))
+
+pub ruleset some-up = (first-up-start, first-up-next, some-up-found, some-up-done)
+
+pub first-some-exactly : (p : ℕ → Bool) (n : ℕ) → (ltb (first p n) n ≡ true) ↔ ((k : ℕ) × ((k < n) × (p k ≡ true)))
+first-some-exactly p n = (
+  λ h. let l : first p n < n = ltb-true (first p n) n h in (first p n, (l, first-passes p n l)),
+  λ (k, (l, h)). lt-ltb (first p n) n (omega (arith, first-le-of p n k l h)),
+)

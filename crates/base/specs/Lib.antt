@@ -9,6 +9,7 @@ pub mod SumLaws
 pub mod Around
 pub mod Part
 pub mod Shift
+pub mod Written
 pub mod Arith
 pub mod Distinct
 pub mod Chain
