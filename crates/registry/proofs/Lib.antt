@@ -1,2 +1,4 @@
 -- What several proofs of `registry` share.
 pub mod Holding
+pub mod Naming
+pub mod Counting

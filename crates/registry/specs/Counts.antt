@@ -53,7 +53,7 @@ counted-none link n =
       short = λ p l. omega (arith, zeros-at n p);
     }
 
-children-more : (link : ℕ → ℕ) (k p : ℕ) → children link (k + 1) p ≡ children link k p + one (childOf link p k)
+pub children-more : (link : ℕ → ℕ) (k p : ℕ) → children link (k + 1) p ≡ children link k p + one (childOf link p k)
 unfolding children
 children-more link k p = sum-more (λ k. one (childOf link p k)) k
 

@@ -9,3 +9,14 @@ pub mod Holders
 pub mod HoldersLaws
 pub mod Ids
 pub mod IdsLaws
+pub mod Registering
+pub mod Without
+pub mod RegisteringLaws
+pub mod CollectionLaws
+pub mod Children
+pub mod ChildrenLength
+pub mod ChildLists
+pub mod PlaceLists
+pub mod Descent
+pub mod DescentLaws
+pub mod MarkedLaws

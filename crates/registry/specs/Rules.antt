@@ -8,7 +8,7 @@ use Rattle.base.specs.Below.{one}
 use Rattle.base.specs.SumLaws.{sum-ext}
 use Rattle.base.specs.Distinct.{Differ}
 use Rattle.registry.specs.Words.{idAt, stateAt, linkAt, recycledAt, revoked, listed, childOf, children}
-use Rattle.registry.specs.Sound.{Issued, Ascend, Unregistered, Linked, Listed, Short, Cascaded}
+use Rattle.registry.specs.Sound.{Issued, Ascend, Unregistered, Linked, Listed, Short, Cascaded, Held}
 
 -- Of the n registered ids.
 pub record RegisteredRules (places n next : ℕ) (rg : List ℕ) : Type 0 where
@@ -24,6 +24,12 @@ pub record RecycledRules (places n m next : ℕ) (rg : List ℕ) : Type 0 where
   pub ascend : Ascend m (recycledAt places rg)
   pub unregistered : Unregistered m (recycledAt places rg) n (idAt rg)
   pub issued : Issued m (recycledAt places rg) next
+
+-- Of both, and of the holders; `spaces id` counts the spaces with an entry of the id.
+pub record RegistryRules (places n m next : ℕ) (spaces : ℕ → ℕ) (rg : List ℕ) : Type 0 where
+  pub registered : RegisteredRules places n next rg
+  pub recycled : RecycledRules places n m next rg
+  pub held : Held n (idAt rg) (stateAt places rg) spaces
 
 -- g has the values of f below n.
 abbrev pub Same : ℕ → (ℕ → ℕ) → (ℕ → ℕ) → Type 0
@@ -48,10 +54,13 @@ module _ (n : ℕ) (link link′ : ℕ → ℕ) (same : Same n link link′) whe
   pub linked-same : Linked n link → Linked n link′
   linked-same linked k l = rw (same k l) (linked k l)
 
-  pub short-same : Short n link → Short n link′
+  pub children-same : (p : ℕ) → children link′ n p ≡ children link n p
   unfolding children
-  short-same short p l =
-      rw (sum-ext (λ k. one (childOf link′ p k)) (λ k. one (childOf link p k)) n (λ k u. ap (λ x. one (eqb x (suc p))) (same k u))) (short p l)
+  children-same p =
+      sum-ext (λ k. one (childOf link′ p k)) (λ k. one (childOf link p k)) n (λ k l. ap (λ x. one (eqb x (suc p))) (same k l))
+
+  pub short-same : Short n link → Short n link′
+  short-same short p l = rw (children-same p) (short p l)
 
   module _ (state state′ : ℕ → ℕ) (linked : Linked n link) where
     -- A parent stands before its child.
