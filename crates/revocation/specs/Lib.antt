@@ -2,3 +2,9 @@
 pub mod Words
 pub mod Sound
 pub mod SoundLaws
+pub mod Log
+pub mod LogLaws
+pub mod Queue
+pub mod Reason
+pub mod QueueLaws
+pub mod NoticesLaws

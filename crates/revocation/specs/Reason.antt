@@ -1,0 +1,34 @@
+-- Why a capability was revoked, as a number and by name. Document 01: reasons print as explicit, parent_revoked, process_exit,
+-- policy_enforced. A name is the list of its ASCII bytes.
+use mathlib.Core.List.{List, [], _∷_}
+use Prim.Native.Nat.{ℕ, _≤_}
+use native.Mathlib.Omega.{arith}
+use lib.ListN.{length}
+use Rattle.revocation.specs.declared.RevocationReason.{RevocationReason}
+use Rattle.revocation.specs.declared.RevocationReason.the-variants.{Explicit, ParentRevoked, ProcessExit, PolicyEnforced}
+
+abbrev pub numberOf : RevocationReason → ℕ
+numberOf Explicit = 0
+numberOf ParentRevoked = 1
+numberOf ProcessExit = 2
+numberOf PolicyEnforced = 3
+
+abbrev pub nameOf : RevocationReason → List ℕ
+nameOf Explicit = 101 ∷ 120 ∷ 112 ∷ 108 ∷ 105 ∷ 99 ∷ 105 ∷ 116 ∷ []
+nameOf ParentRevoked = 112 ∷ 97 ∷ 114 ∷ 101 ∷ 110 ∷ 116 ∷ 95 ∷ 114 ∷ 101 ∷ 118 ∷ 111 ∷ 107 ∷ 101 ∷ 100 ∷ []
+nameOf ProcessExit = 112 ∷ 114 ∷ 111 ∷ 99 ∷ 101 ∷ 115 ∷ 115 ∷ 95 ∷ 101 ∷ 120 ∷ 105 ∷ 116 ∷ []
+nameOf PolicyEnforced = 112 ∷ 111 ∷ 108 ∷ 105 ∷ 99 ∷ 121 ∷ 95 ∷ 101 ∷ 110 ∷ 102 ∷ 111 ∷ 114 ∷ 99 ∷ 101 ∷ 100 ∷ []
+
+-- Every reason is a listed value of a notice's reason.
+pub number-listed : (reason : RevocationReason) → numberOf reason ≤ 3
+number-listed Explicit = omega arith
+number-listed ParentRevoked = omega arith
+number-listed ProcessExit = omega arith
+number-listed PolicyEnforced = omega arith
+
+-- The longest name has 15 bytes.
+pub name-length : (reason : RevocationReason) → length (nameOf reason) ≤ 15
+name-length Explicit = omega arith
+name-length ParentRevoked = omega arith
+name-length ProcessExit = omega arith
+name-length PolicyEnforced = omega arith
