@@ -1,8 +1,4 @@
 -- Laws of the calls of a space, from their definitions alone.
-pub mod Entered
-pub mod Determined
-pub mod OnlySpace
-pub mod OnlyIds
 pub mod Elsewhere
 pub mod Holding
 pub mod Meaning

@@ -10,7 +10,7 @@ use Rattle.space.specs.Change.{insertOut}
 use Rattle.space.specs.Lookup.{lookedUp, gotEntry}
 use Rattle.space.specs.Words.{generationOf, tableOf, slotWords}
 use Rattle.steps.specs.Enter.{onWorld, onSpace}
-use Rattle.steps.specs.Steps.{spaceOf, factsOf, lookupStep, nextStep, insertStep, removeStep, clearStep, copyStep, copiedOf, takenId, takeStep}
+use Rattle.steps.specs.Steps.{spaceOf, factsOf, newEntry, lookupStep, nextStep, insertStep, removeStep, clearStep, copyStep, copiedOf, takenId, takeStep}
 use Rattle.steps.specs.declared.Taken.{Taken}
 use Rattle.steps.specs.declared.Taken.the-variants.{Id, Exhausted}
 use Rattle.table.specs.Copy.{nthOf}
@@ -20,9 +20,10 @@ use Rattle.token.specs.Token.{made}
 use Rattle.token.specs.declared.capability.Made.{Made}
 use Rattle.token.specs.declared.capability.Made.the-variants.{Token, Refused}
 use Rattle.world.specs.declared.Numbers.{Numbers}
-use Rattle.space_calls.specs.Replies.{Left, replied, done, refusal, refuse, rightsReply, objectReply, goneReply, heldReply, noEntry, entryReply, nthReply, noStats, insertReply}
+use Rattle.steps.specs.Replies.{Left, replied, done, refusal, refuse}
+use Rattle.space_calls.specs.Replies.{rightsReply, objectReply, goneReply, heldReply, noEntry, entryReply, nthReply, noStats, insertReply}
 use Rattle.space_calls.specs.declared.EntryReply.{EntryReply}
-use Rattle.space_calls.specs.declared.Reply.{Reply}
+use Rattle.steps.specs.declared.Reply.{Reply}
 use Rattle.space_calls.specs.declared.StatsReply.{StatsReply}
 
 -- ---- what a space says of itself
@@ -83,11 +84,6 @@ nthEntryOut mem s n =
     nthReply (nthOf (liveEntries (slotWords sp) 0 (tableOf sp .slots)) n))
 
 -- ---- changing a space
-
--- A new entry has not been used.
-abbrev pub newEntry : ℕ → ℕ → ℕ → CapabilityEntry
-newEntry token object rights =
-    record { capability = record { 0 = token }; object = object; rights = record { 0 = rights }; uses = 0 }
 
 -- Insert tests quota (11), then the id (7).
 abbrev pub inserting : Numbers → ℕ → CapabilityEntry → ℕ → List ℕ → Left Reply

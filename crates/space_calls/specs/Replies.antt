@@ -1,6 +1,5 @@
 -- What a call answers for what a step found: the paper's number as the answer, the values, and the added counts. A refusal's values are 0;
 -- a search's visits are answered whether it found the entry or not.
-use mathlib.Core.List.{List}
 use Prim.Native.Nat.{ℕ}
 use lib.Dec.{eqb}
 use Rattle.answers.specs.Number.{numberOf}
@@ -15,27 +14,10 @@ use Rattle.table.specs.declared.Got.the-variants.{Entry, Nothing}
 use Rattle.table.specs.declared.Nth.{Nth}
 use Rattle.table.specs.declared.Nth.the-variants as nth
 use Rattle.token.specs.Rights.{holds}
+use Rattle.steps.specs.Replies.{replied}
+use Rattle.steps.specs.declared.Reply.{Reply}
 use Rattle.space_calls.specs.declared.EntryReply.{EntryReply}
-use Rattle.space_calls.specs.declared.Reply.{Reply}
 use Rattle.space_calls.specs.declared.StatsReply.{StatsReply}
-
--- An answer with the memory that the call leaves.
-pub record Left (A : Type 0) : Type 0 where
-  pub reply : A
-  pub memory : List ℕ
-
-abbrev pub replied : Answer → ℕ → ℕ → Reply
-replied answer value count = record { answer = answer; value = value; count = count }
-
-abbrev pub done : ℕ → Reply
-done value = replied Done value 0
-
-abbrev pub refusal : Answer → Reply
-refusal answer = replied answer 0 0
-
--- A refusal changes nothing.
-abbrev pub refuse : List ℕ → Answer → Left Reply
-refuse mem answer = record { reply = refusal answer; memory = mem }
 
 -- ---- an entry that was looked for: 0 with its value, or 8
 

@@ -2,16 +2,16 @@
 ghost use mathlib.Core.Path.{_≡_};
 ghost use Rattle.space_calls.specs.Calls.{lookupOut, lookupEntryOut, checkRightsOut, getEntryOut, nthEntryOut};
 use super::EntryReply;
-use super::Reply;
 use super::replies::entry_reply;
 use super::replies::held_reply;
 use super::replies::no_entry;
 use super::replies::nth_reply;
-use super::replies::refusal;
 use super::replies::rights_reply;
 use answers::Answer;
 use steps::Entered;
+use steps::Reply;
 use steps::enter::enter_space;
+use steps::replies::refusal;
 use steps::spaces;
 use token::CapabilityToken;
 use token::Rights;

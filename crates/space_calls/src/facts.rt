@@ -1,14 +1,14 @@
 // What a space says of itself: its quota, its generation, its slots and entries, its counted lookups.
 ghost use mathlib.Core.Path.{_≡_};
 ghost use Rattle.space_calls.specs.Calls.{usedOut, quotaOut, capacityOut, generationOut, statsOut};
-use super::Reply;
 use super::StatsReply;
-use super::replies::done;
 use super::replies::no_stats;
-use super::replies::refusal;
 use answers::Answer;
 use steps::Entered;
+use steps::Reply;
 use steps::enter::enter_space;
+use steps::replies::done;
+use steps::replies::refusal;
 use steps::spaces::facts;
 
 pub fn used(mem: &[u64], s: usize) -> Reply

@@ -29,13 +29,6 @@ pub use ids::revoke;
 use token::CapabilityToken;
 use token::Rights;
 
-// What a call answers: its answer, a value, 0 on a refusal, and the slots that its search visited or the entries that it moved.
-pub struct Reply {
-    pub answer: Answer,
-    pub value: u64,
-    pub count: usize,
-}
-
 // An entry for an answer, zeros on a refusal, and the slots that its search visited.
 pub struct EntryReply {
     pub answer: Answer,

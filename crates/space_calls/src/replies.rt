@@ -1,37 +1,17 @@
 // The answers of the calls, from what the steps found.
 ghost use mathlib.Core.Path.{_≡_};
-ghost use Rattle.space_calls.specs.Replies.{replied, refusal, done, rightsReply, objectReply, goneReply, heldReply, noEntry, wholeEntry, entryReply, nthReply, noStats};
-ghost use Rattle.space_calls.specs.Replies as spec;
+ghost use Rattle.steps.specs.Replies.{replied};
+ghost use Rattle.space_calls.specs.Replies.{rightsReply, objectReply, goneReply, heldReply, noEntry, wholeEntry, entryReply, nthReply, noStats};
 use super::EntryReply;
-use super::Reply;
 use super::StatsReply;
 use answers::Answer;
 use space::LookedUp;
+use steps::Reply;
 use table::CapabilityEntry;
 use table::Got;
 use table::Nth;
 use token::CapabilityToken;
 use token::Rights;
-
-pub fn refusal(answer: Answer) -> Reply
-    ensures { λ r. ⌜ r ≡ spec.refusal answer ⌝ }
-{
-    Reply {
-        answer,
-        value: 0,
-        count: 0,
-    }
-}
-
-pub fn done(value: u64) -> Reply
-    ensures { λ r. ⌜ r ≡ spec.done value ⌝ }
-{
-    Reply {
-        answer: Answer::Done,
-        value,
-        count: 0,
-    }
-}
 
 fn absent(visits: usize) -> Reply
     ensures { λ r. ⌜ r ≡ replied Answer.NotFound 0 visits ⌝ }

@@ -2,3 +2,5 @@
 pub mod Enter
 pub mod Ready
 pub mod Steps
+pub mod Replies
+pub mod Revocation

@@ -3,11 +3,13 @@ use mathlib.Core.Bool.{Bool, true, false}
 use mathlib.Core.List.{List}
 use Prim.Native.Nat.{ℕ, _+_, _-_, _%_, _^_}
 use lib.Dec.{eqb, ltb}
-use lib.ListN.{length, set}
+use lib.ListN.{length, getD, set}
 use Rattle.answers.specs.Number.{numberOf}
 use Rattle.base.specs.Choose.{pick}
-use Rattle.registry.specs.Holders.{held, released, heldAll, releasedAll}
-use Rattle.registry.specs.Ids.{firstTaken}
+use Rattle.registry.specs.Holders.{placeOf, held, released, heldAll, releasedAll}
+use Rattle.registry.specs.Ids.{firstTaken, recycledWith}
+use Rattle.registry.specs.Registering.{registered, listGiven, unregistered, collected}
+use Rattle.registry.specs.Words.{objectAt, children}
 use Rattle.space.specs.Change.{insertOut, removedToken, cleared, nextGeneration}
 use Rattle.space.specs.Copy.{copiedTable, copiedSpace}
 use Rattle.space.specs.Ids.{entryIds}
@@ -19,7 +21,7 @@ use Rattle.table.specs.declared.Got.{Got}
 use Rattle.table.specs.declared.Got.the-variants.{Entry, Nothing}
 use Rattle.world.specs.Numbers.{nextOf, registeredOf, recycledOf}
 use Rattle.world.specs.Regions.{space, registry, view, onRegion}
-use Rattle.world.specs.Sound.{recycled}
+use Rattle.world.specs.Sound.{links, recycled}
 use Rattle.world.specs.declared.Numbers.{Numbers}
 use Rattle.steps.specs.declared.Copied.{Copied}
 use Rattle.steps.specs.declared.Facts.{Facts}
@@ -64,6 +66,11 @@ holdAllStep d n ids mem = onRegion d registry (heldAll (d .places) n ids) mem
 unfoldable pub releaseAllStep : Numbers → ℕ → List ℕ → List ℕ → List ℕ
 releaseAllStep d n ids mem = onRegion d registry (releasedAll (d .places) n ids) mem
 
+-- A new entry has not been used.
+abbrev pub newEntry : ℕ → ℕ → ℕ → CapabilityEntry
+newEntry token object rights =
+    record { capability = record { 0 = token }; object = object; rights = record { 0 = rights }; uses = 0 }
+
 -- ---- entries, with their holders: plus one per accepted entry of a registered id, minus one per entry leaving
 
 unfoldable pub insertStep : Numbers → ℕ → CapabilityEntry → List ℕ → List ℕ
@@ -106,3 +113,49 @@ takeStep d mem =
     pick (ltb 0 (recycledOf mem))
     (set (onRegion d registry (firstTaken (d .places) (recycledOf mem)) mem) 12 (recycledOf mem - 1))
     (pick (ltb (nextOf mem) (2 ^ 48)) (set mem 5 (nextOf mem + 1)) mem)
+
+-- ---- the registry: n ids are registered, m recycled
+
+-- The place of an id, or n where it is not registered.
+abbrev pub placeIn : Numbers → List ℕ → ℕ → ℕ
+placeIn d mem id = placeOf (registeredOf mem) (view d registry mem) id
+
+abbrev pub objects : Numbers → List ℕ → ℕ → ℕ
+objects d mem = objectAt (d .places) (view d registry mem)
+
+-- A new id behind the others; its link is its parent's place plus one, or 0.
+unfoldable pub registerStep : Numbers → ℕ → ℕ → ℕ → List ℕ → List ℕ
+registerStep d id object link mem =
+    let n = registeredOf mem in
+    set (onRegion d registry (registered (d .places) n id object link) mem) 11 (n + 1)
+
+-- Place p has a list of children from now on.
+unfoldable pub listStep : Numbers → ℕ → List ℕ → List ℕ
+listStep d p mem = onRegion d registry (listGiven (d .places) p) mem
+
+-- Place k leaves, with its list and its place in every list.
+unfoldable pub unregisterStep : Numbers → ℕ → List ℕ → List ℕ
+unregisterStep d k mem =
+    let n = registeredOf mem in
+    set (onRegion d registry (unregistered (d .places) n k) mem) 11 (n - 1)
+
+-- An id joins the recycled ones.
+unfoldable pub recycleStep : Numbers → ℕ → List ℕ → List ℕ
+recycleStep d id mem =
+    let m = recycledOf mem in
+    set (onRegion d registry (recycledWith (d .places) m id) mem) 12 (m + 1)
+
+-- The children of place p with no children and no holders leave list and registry.
+unfoldable pub collectStep : Numbers → ℕ → List ℕ → List ℕ
+collectStep d p mem =
+    let n = registeredOf mem in
+    set (onRegion d registry (λ rg. collected (d .places) p n rg .words) mem) 11 (collected (d .places) p n (view d registry mem) .left)
+
+-- How many children place p has.
+abbrev pub childrenOf : Numbers → List ℕ → ℕ → ℕ
+childrenOf d mem p = children (links d mem) (registeredOf mem) p
+
+-- ---- the statistics: word i of the head counts, in 64 bits, wrapping
+
+unfoldable pub countStep : ℕ → List ℕ → List ℕ
+countStep i mem = set mem i ((getD mem i 0 + 1) % 2 ^ 64)

@@ -4,6 +4,9 @@
 pub mod enter;
 pub mod holders;
 pub mod ids;
+pub mod registered;
+pub mod replies;
+pub mod revoked;
 pub mod spaces;
 
 use answers::Answer;
@@ -35,4 +38,11 @@ pub struct Facts {
 pub struct Copied {
     pub moved: usize,
     pub accepted: usize,
+}
+
+// What a call answers: its answer, a value, 0 on a refusal, and the slots that its search visited or the entries that it moved.
+pub struct Reply {
+    pub answer: Answer,
+    pub value: u64,
+    pub count: usize,
 }

@@ -1,6 +1,7 @@
-// One space of the world, lent to the functions of a space; and, where entries come or go, their holders counted.
+// One space of the world, lent to the functions of a space; where entries come or go, their holders counted; and the count of its strays.
 ghost use mathlib.Core.Path.{_≡_};
 ghost use Prim.Native.Nat.{_<_, _≤_};
+ghost use Rattle.registry.specs.Children as derivation;
 ghost use Rattle.space.specs.Change.{insertOut, removedToken, cleared};
 ghost use Rattle.space.specs.Lookup.{lookedUp, gotEntry};
 ghost use Rattle.space.specs.Words.{tableOf, slotWords};
@@ -10,7 +11,8 @@ ghost use Rattle.steps.specs.Ready.{Ready};
 ghost use lib.ListN.{length, take};
 ghost use Rattle.space.specs.Copy.{copiedTable, copiedSpace};
 ghost use Rattle.space.specs.Ids.{entryIds};
-ghost use Rattle.world.specs.Regions.{space, onRegion};
+ghost use Rattle.world.specs.Numbers.{registeredOf};
+ghost use Rattle.world.specs.Regions.{space, registry, view, onRegion};
 ghost use Rattle.steps.specs.Steps.{spaceOf, factsOf, lookupStep, nextStep, insertStep, removeStep, clearStep, copyStep, copiedOf};
 use super::Copied;
 use super::Facts;
@@ -25,6 +27,7 @@ use table::Got;
 use table::Nth;
 use token::CapabilityToken;
 use world::Numbers;
+use world::regions::registry_at;
 use world::regions::space_at;
 use world::regions::width;
 
@@ -147,6 +150,18 @@ fn ids_of(mem: &[u64], d: Numbers, s: usize, ids: &mut [u64]) -> usize
     let start = space_at(d, s);
     let end = start + width(d);
     space::entry_ids(&mem[start..end], ids)
+}
+
+// How many entries of space s are strays: their ids are not registered.
+pub fn strays(mem: &[u64], d: Numbers, s: usize) -> usize
+    requires { ⌜ Ready d (now mem) × (s < d .spaces) ⌝ }
+    ensures { λ r. ⌜ r ≡ derivation.strays (registeredOf (now (mem .entry))) (view d registry (now (mem .entry))) (entryIds (spaceOf d s (now (mem .entry)))) ⌝ }
+{
+    let mut ids = [0u64; 512];
+    let count = ids_of(mem, d, s, &mut ids);
+    let start = registry_at(d);
+    let end = start + 5 * d.places + 1;
+    registry::children::strays(&mem[start..end], mem[11] as usize, &ids[..count])
 }
 
 // Every entry out of the space.

@@ -11,7 +11,7 @@ use Rattle.answers.specs.declared.Answer.the-variants.{BadSpace}
 use Rattle.base.specs.Choose.{when}
 use Rattle.space.specs.Words.{generationOf}
 use Rattle.steps.specs.Enter.{onSpace}
-use Rattle.steps.specs.Steps.{spaceOf, copyStep, takenId, takeStep}
+use Rattle.steps.specs.Steps.{spaceOf, copyStep, takenId, takeStep, newEntry}
 use Rattle.steps.specs.declared.Taken.{Taken}
 use Rattle.steps.specs.declared.Taken.the-variants.{Id, Exhausted}
 use Rattle.steps.proofs.laws.SpaceSteps.{clear-step-kept}
@@ -22,12 +22,12 @@ use Rattle.token.specs.declared.capability.Made.the-variants.{Token, Refused}
 use Rattle.world.specs.Numbers.{numbersOf}
 use Rattle.world.specs.Sound.{Sound}
 use Rattle.world.specs.declared.Numbers.{Numbers}
-use Rattle.space_calls.specs.Calls.{lookupOut, lookupEntryOut, checkRightsOut, newEntry, insertCallOut, removeOut, incrementOut, clearOut, revokeAllOut, copyOut, allocOut, createMade, createTaken, createOut, revokeMade, revokeOut}
-use Rattle.space_calls.specs.Replies.{Left, refuse}
-use Rattle.space_calls.specs.declared.Reply.{Reply}
-use Rattle.space_calls.proofs.laws.Entered.{world-by-cases, space-by-cases}
-use Rattle.space_calls.proofs.laws.OnlyIds.{OnlyIds, only-no-id, take-step}
-use Rattle.space_calls.proofs.laws.OnlySpace.{OnlySpace, only-refl, only-trans, lookup-step, next-step, insert-step, remove-step, clear-step, copy-step}
+use Rattle.space_calls.specs.Calls.{lookupOut, lookupEntryOut, checkRightsOut, insertCallOut, removeOut, incrementOut, clearOut, revokeAllOut, copyOut, allocOut, createMade, createTaken, createOut, revokeMade, revokeOut}
+use Rattle.steps.specs.Replies.{Left, refuse}
+use Rattle.steps.specs.declared.Reply.{Reply}
+use Rattle.steps.proofs.laws.Entered.{world-by-cases, space-by-cases}
+use Rattle.steps.proofs.laws.OnlyIds.{OnlyIds, only-no-id, take-step}
+use Rattle.steps.proofs.laws.OnlySpace.{OnlySpace, only-refl, only-trans, lookup-step, next-step, insert-step, remove-step, clear-step, copy-step}
 
 -- Ids are taken, then space s and holders change.
 pub record IdsAndSpace (d : Numbers) (s : ℕ) (mem after : List ℕ) : Type 0 where

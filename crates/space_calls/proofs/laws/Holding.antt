@@ -23,7 +23,7 @@ use Rattle.space.proofs.laws.Insert.{refused-changes-nothing}
 use Rattle.space.proofs.laws.Kept.{fits, insert-keeps, next-keeps}
 use Rattle.space.proofs.laws.View.{view-next}
 use Rattle.steps.specs.Enter.{onSpace}
-use Rattle.steps.specs.Steps.{spaceOf, lookupStep, insertStep, removeStep, takenId, takeStep}
+use Rattle.steps.specs.Steps.{spaceOf, lookupStep, insertStep, removeStep, takenId, takeStep, newEntry}
 use Rattle.steps.specs.declared.Taken.{Taken}
 use Rattle.steps.specs.declared.Taken.the-variants.{Id, Exhausted}
 use Rattle.steps.proofs.laws.Kept.{Kept, kept-sound}
@@ -39,14 +39,15 @@ use Rattle.token.specs.declared.capability.Made.the-variants.{Token, Refused}
 use Rattle.world.specs.Numbers.{numbersOf}
 use Rattle.world.specs.Sound.{Sound}
 use Rattle.world.specs.declared.Numbers.{Numbers}
-use Rattle.space_calls.specs.Calls.{lookupOut, lookupEntryOut, checkRightsOut, newEntry, insertCallOut, removeOut, incrementOut, clearOut, revokeAllOut, copyOut, allocOut, createMade, createTaken, createOut, revokeMade, revokeOut}
-use Rattle.space_calls.specs.Replies.{Left, wholeEntry, entryReply}
+use Rattle.space_calls.specs.Calls.{lookupOut, lookupEntryOut, checkRightsOut, insertCallOut, removeOut, incrementOut, clearOut, revokeAllOut, copyOut, allocOut, createMade, createTaken, createOut, revokeMade, revokeOut}
+use Rattle.steps.specs.Replies.{Left}
+use Rattle.space_calls.specs.Replies.{wholeEntry, entryReply}
 use Rattle.space_calls.specs.declared.EntryReply.{EntryReply}
-use Rattle.space_calls.specs.declared.Reply.{Reply}
+use Rattle.steps.specs.declared.Reply.{Reply}
 use Rattle.space_calls.proofs.laws.Elsewhere.{clear-only, revoke-all-only, copy-only}
-use Rattle.space_calls.proofs.laws.Entered.{world-by-cases, space-by-cases, space-called, done-made}
-use Rattle.space_calls.proofs.laws.OnlyIds.{take-step}
-use Rattle.space_calls.proofs.laws.OnlySpace.{OnlySpace, Step, lookup-step, next-step, insert-step, remove-step}
+use Rattle.steps.proofs.laws.Entered.{world-by-cases, space-by-cases, space-called, done-made}
+use Rattle.steps.proofs.laws.OnlyIds.{take-step}
+use Rattle.steps.proofs.laws.OnlySpace.{OnlySpace, Step, lookup-step, next-step, insert-step, remove-step}
 use Rattle.space_calls.proofs.laws.Sound.{clear-keeps, revoke-all-keeps, copy-keeps}
 use Rattle.space_calls.proofs.laws.Unchanged.{zero-is-done}
 

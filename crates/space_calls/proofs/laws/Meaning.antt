@@ -28,10 +28,10 @@ use Rattle.world.specs.Numbers.{numbersOf}
 use Rattle.world.specs.Sound.{SoundAt, Sound}
 use Rattle.world.specs.declared.Numbers.{Numbers}
 use Rattle.space_calls.specs.Calls.{usedOut, capacityOut, lookupOut, clearOut, revokeAllOut, copyOut}
-use Rattle.space_calls.specs.Replies.{Left, refuse, done}
-use Rattle.space_calls.specs.declared.Reply.{Reply}
-use Rattle.space_calls.proofs.laws.Entered.{done-made, space-called}
-use Rattle.space_calls.proofs.laws.OnlySpace.{lookup-step, next-step, clear-step, copy-step}
+use Rattle.steps.specs.Replies.{Left, refuse, done}
+use Rattle.steps.specs.declared.Reply.{Reply}
+use Rattle.steps.proofs.laws.Entered.{done-made, space-called}
+use Rattle.steps.proofs.laws.OnlySpace.{lookup-step, next-step, clear-step, copy-step}
 
 -- ---- a lookup
 

@@ -1,12 +1,12 @@
 -- 26 is answered exactly on memory that is not sound, 20 exactly on a sound one for a space number of S or more.
 use mathlib.Core.Bool.{Bool, true, false, not}
 use mathlib.Core.List.{List}
-use mathlib.Core.Logic.{_↔_, _≢_, _⊎_, inl, inr, ⊎-elim}
+use mathlib.Core.Logic.{_↔_, _⊎_, inl, inr, ⊎-elim}
 use mathlib.Core.Path.{_≡_, refl, ap}
 use Prim.Native.Nat.{ℕ, _-_, _^_, _≤_, _<_}
 use native.Mathlib.Omega.{arith}
-use borrow.Author.Tests.{eqb-false, ltb-true, ltb-false}
-use lib.Dec.{eqb, leb, ltb}
+use borrow.Author.Tests.{ltb-true, ltb-false}
+use lib.Dec.{leb, ltb}
 use Rattle.answers.specs.Number.{numberOf}
 use Rattle.answers.specs.declared.Answer.{Answer}
 use Rattle.answers.specs.declared.Answer.the-variants.{Done, AlreadyExists, NotFound, IdExhausted, SpaceQuota, SpaceIds, BadSpace, BadField, BadWorld}
@@ -15,8 +15,7 @@ use Rattle.space.specs.Change.{InsertOut, insertOut}
 use Rattle.space.specs.Lookup.{lookedUp, gotEntry}
 use Rattle.space.specs.Words.{generationOf, tableOf, slotWords}
 use Rattle.space.proofs.laws.Insert.{insert-by-cases}
-use Rattle.steps.specs.Enter.{onWorld, onSpace}
-use Rattle.steps.specs.Steps.{spaceOf, takenId, takeStep}
+use Rattle.steps.specs.Steps.{spaceOf, takenId, takeStep, newEntry}
 use Rattle.steps.specs.declared.Taken.{Taken}
 use Rattle.steps.specs.declared.Taken.the-variants.{Id, Exhausted}
 use Rattle.table.specs.Copy.{nthOf}
@@ -32,57 +31,16 @@ use Rattle.token.specs.declared.capability.Made.the-variants.{Token, Refused}
 use Rattle.world.specs.Numbers.{numbersOf}
 use Rattle.world.specs.Sound.{Sound}
 use Rattle.world.specs.declared.Numbers.{Numbers}
-use Rattle.space_calls.specs.Calls.{usedOut, quotaOut, capacityOut, generationOut, statsOut, lookupOut, lookupEntryOut, checkRightsOut, getEntryOut, nthEntryOut, newEntry, insertCallOut, removeOut, incrementOut, clearOut, revokeAllOut, copyOut, takenReply, allocOut, createMade, createTaken, createOut, revokeMade, revokeOut}
-use Rattle.space_calls.specs.Replies.{Left, refuse, foundReply, heldReply, noEntry, entryReply, nthReply}
+use Rattle.space_calls.specs.Calls.{usedOut, quotaOut, capacityOut, generationOut, statsOut, lookupOut, lookupEntryOut, checkRightsOut, getEntryOut, nthEntryOut, insertCallOut, removeOut, incrementOut, clearOut, revokeAllOut, copyOut, takenReply, allocOut, createMade, createTaken, createOut, revokeMade, revokeOut}
+use Rattle.steps.specs.Replies.{Left, refuse}
+use Rattle.space_calls.specs.Replies.{foundReply, heldReply, noEntry, entryReply, nthReply}
 use Rattle.space_calls.specs.declared.EntryReply.{EntryReply}
-use Rattle.space_calls.specs.declared.Reply.{Reply}
+use Rattle.steps.specs.declared.Reply.{Reply}
 use Rattle.space_calls.specs.declared.StatsReply.{StatsReply}
-use Rattle.space_calls.proofs.laws.Entered.{world-by-cases, space-by-cases}
-
--- What the answer of a call on space s says of the memory and of s.
-pub record Told (mem : List ℕ) (s : ℕ) (answer : Answer) : Type 0 where
-  pub bad-world : (answer ≡ BadWorld) ↔ (¬ Sound mem)
-  pub bad-space : (answer ≡ BadSpace) ↔ (Sound mem × (numbersOf mem .spaces ≤ s))
-
--- An answer that a call gives once it is made: neither 26 nor 20.
-pub record Inner (answer : Answer) : Type 0 where
-  pub not-26 : numberOf answer ≢ 26
-  pub not-20 : numberOf answer ≢ 20
-
--- Every call whose own answers are such, on every memory.
-module _ {A : Type 0} (answerOf : A → Answer) (refusing : Answer → A) (mem : List ℕ) (call : Numbers → A)
-    (says : (a : Answer) → answerOf (refusing a) ≡ a) (inner : Inner (answerOf (call (numbersOf mem))))
-  where
-    pub told : (s : ℕ) → Told mem s (answerOf (onSpace refusing mem s call))
-    told s =
-        space-by-cases (λ r. Told mem s (answerOf r)) refusing mem call
-        (λ bad. record {
-          bad-world = (λ e. bad, λ b. says BadWorld);
-          bad-space = (λ e. absurd (omega (arith, ap numberOf e, ap numberOf (says BadWorld))), λ (sound, far). absurd (bad sound));
-        })
-        s
-        (λ sound far. record {
-          bad-world = (λ e. absurd (omega (arith, ap numberOf e, ap numberOf (says BadSpace))), λ bad. absurd (bad sound));
-          bad-space = (λ e. (sound, far), λ (sound, far). says BadSpace);
-        })
-        (λ sound valid. record {
-          bad-world = (λ e. absurd (inner .not-26 (ap numberOf e)), λ bad. absurd (bad sound));
-          bad-space = (λ e. absurd (inner .not-20 (ap numberOf e)), λ (sound, far). absurd (omega arith));
-        })
-
-    pub world-told : (answerOf (onWorld refusing mem call) ≡ BadWorld) ↔ (¬ Sound mem)
-    world-told =
-        world-by-cases (λ r. (answerOf r ≡ BadWorld) ↔ (¬ Sound mem)) refusing mem call
-        (λ bad. (λ e. bad, λ b. says BadWorld))
-        (λ sound. (λ e. absurd (inner .not-26 (ap numberOf e)), λ bad. absurd (bad sound)))
+use Rattle.steps.proofs.laws.Entered.{space-by-cases}
+use Rattle.steps.proofs.laws.Told.{Told, Inner, told, world-told, inner, inner-0}
 
 -- ---- the calls' own answers
-
-inner : (a : Answer) → eqb (numberOf a) 26 ≡ false → eqb (numberOf a) 20 ≡ false → Inner a
-inner a not-26 not-20 = record { not-26 = eqb-false (numberOf a) 26 not-26; not-20 = eqb-false (numberOf a) 20 not-20 }
-
-inner-0 : Inner Done
-inner-0 = inner Done refl refl
 
 inner-found : (value : CapabilityEntry → ℕ) (got : Got) (visits : ℕ) → Inner (foundReply value got visits .answer)
 inner-found value (Entry e) visits = inner-0

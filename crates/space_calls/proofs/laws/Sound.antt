@@ -5,15 +5,13 @@ use mathlib.Core.List.{List}
 use Prim.Native.Nat.{ℕ, _^_, _<_}
 use borrow.Author.Tests.{ltb-true}
 use lib.Dec.{ltb}
-use Rattle.answers.specs.declared.Answer.{Answer}
 use Rattle.answers.specs.declared.Answer.the-variants.{BadSpace}
 use Rattle.base.specs.Choose.{when}
 use Rattle.space.specs.Words.{generationOf}
-use Rattle.steps.specs.Enter.{onSpace}
-use Rattle.steps.specs.Steps.{spaceOf, takenId, takeStep, copyStep}
+use Rattle.steps.specs.Steps.{spaceOf, takenId, takeStep, copyStep, newEntry}
 use Rattle.steps.specs.declared.Taken.{Taken}
 use Rattle.steps.specs.declared.Taken.the-variants.{Id, Exhausted}
-use Rattle.steps.proofs.laws.Kept.{Kept, kept-refl, kept-trans, kept-sound}
+use Rattle.steps.proofs.laws.Kept.{Kept, kept-refl, kept-trans}
 use Rattle.steps.proofs.laws.SpaceSteps.{lookup-step-kept, next-step-kept, insert-step-kept, remove-step-kept, clear-step-kept, copy-step-kept}
 use Rattle.steps.proofs.laws.TakeStep.{take-step-kept}
 use Rattle.token.specs.Token.{made}
@@ -22,74 +20,59 @@ use Rattle.token.specs.declared.capability.Made.the-variants.{Token, Refused}
 use Rattle.world.specs.Numbers.{numbersOf}
 use Rattle.world.specs.Sound.{Sound}
 use Rattle.world.specs.declared.Numbers.{Numbers}
-use Rattle.space_calls.specs.Calls.{lookupOut, lookupEntryOut, checkRightsOut, newEntry, insertCallOut, removeOut, incrementOut, clearOut, revokeAllOut, copyOut, allocOut, createMade, createTaken, createOut, revokeMade, revokeOut}
-use Rattle.space_calls.specs.Replies.{Left, refuse}
-use Rattle.space_calls.specs.declared.Reply.{Reply}
-use Rattle.space_calls.proofs.laws.Entered.{world-by-cases, space-by-cases}
-
--- What a call leaves of a sound memory.
-abbrev pub Keeps : {A : Type 0} → List ℕ → Left A → Type 0
-Keeps mem out = Kept (numbersOf mem) mem (out .memory)
-
-pub sound-after : {A : Type 0} (mem : List ℕ) (out : Left A) → Keeps mem out → Sound (out .memory)
-sound-after mem out kept = kept-sound mem (out .memory) kept
+use Rattle.space_calls.specs.Calls.{lookupOut, lookupEntryOut, checkRightsOut, insertCallOut, removeOut, incrementOut, clearOut, revokeAllOut, copyOut, allocOut, createMade, createTaken, createOut, revokeMade, revokeOut}
+use Rattle.steps.specs.Replies.{refuse}
+use Rattle.steps.specs.declared.Reply.{Reply}
+use Rattle.steps.proofs.laws.Called.{Keeps, on-world, on-space}
 
 module _ (mem : List ℕ) (sound : Sound mem) where
   abbrev d : Numbers
   d = numbersOf mem
 
-  -- A refusal leaves all as it is, so a call keeps what it keeps where it is made.
-  on-space :
-      {A : Type 0} (refusing : Answer → A) (s : ℕ) (call : Numbers → Left A) → (s < d .spaces → Keeps mem (call d))
-      → Keeps mem (onSpace (λ a. record { reply = refusing a; memory = mem }) mem s call)
-  on-space refusing s call made =
-      let as-it-is = kept-refl d mem sound in
-      space-by-cases (Keeps mem) _ mem call (λ bad. as-it-is) s (λ sound far. as-it-is) (λ sound valid. made valid)
-
   -- ---- finding entries
 
   pub lookup-keeps : (s token : ℕ) → Keeps mem (lookupOut mem s token)
   unfolding lookupOut
-  lookup-keeps s token = on-space _ s _ (λ valid. lookup-step-kept d mem sound s valid token)
+  lookup-keeps s token = on-space mem sound _ _ s (λ valid. lookup-step-kept d mem sound s valid token)
 
   pub lookup-entry-keeps : (s token : ℕ) → Keeps mem (lookupEntryOut mem s token)
   unfolding lookupEntryOut
-  lookup-entry-keeps s token = on-space _ s _ (λ valid. lookup-step-kept d mem sound s valid token)
+  lookup-entry-keeps s token = on-space mem sound _ _ s (λ valid. lookup-step-kept d mem sound s valid token)
 
   pub check-rights-keeps : (s token required : ℕ) → Keeps mem (checkRightsOut mem s token required)
   unfolding checkRightsOut
-  check-rights-keeps s token required = on-space _ s _ (λ valid. lookup-step-kept d mem sound s valid token)
+  check-rights-keeps s token required = on-space mem sound _ _ s (λ valid. lookup-step-kept d mem sound s valid token)
 
   -- ---- changing a space
 
   pub insert-keeps : (s token object rights : ℕ) → rights < 2 ^ 32 → Keeps mem (insertCallOut mem s token object rights)
   unfolding insertCallOut
   insert-keeps s token object rights fits =
-      on-space _ s _ (λ valid. insert-step-kept d mem sound s valid (newEntry token object rights) fits)
+      on-space mem sound _ _ s (λ valid. insert-step-kept d mem sound s valid (newEntry token object rights) fits)
 
   pub remove-keeps : (s token : ℕ) → Keeps mem (removeOut mem s token)
   unfolding removeOut
-  remove-keeps s token = on-space _ s _ (λ valid. remove-step-kept d mem sound s valid token)
+  remove-keeps s token = on-space mem sound _ _ s (λ valid. remove-step-kept d mem sound s valid token)
 
   pub increment-keeps : (s : ℕ) → Keeps mem (incrementOut mem s)
   unfolding incrementOut
-  increment-keeps s = on-space _ s _ (λ valid. next-step-kept d mem sound s valid)
+  increment-keeps s = on-space mem sound _ _ s (λ valid. next-step-kept d mem sound s valid)
 
   pub clear-keeps : (s : ℕ) → Keeps mem (clearOut mem s)
   unfolding clearOut
-  clear-keeps s = on-space _ s _ (λ valid. clear-step-kept d mem sound s valid)
+  clear-keeps s = on-space mem sound _ _ s (λ valid. clear-step-kept d mem sound s valid)
 
   pub revoke-all-keeps : (s : ℕ) → Keeps mem (revokeAllOut mem s)
   unfolding revokeAllOut
   revoke-all-keeps s =
-      on-space _ s _
+      on-space mem sound _ _ s
       (λ valid.
       let emptied = clear-step-kept d mem sound s valid in
       kept-trans d mem _ _ emptied (next-step-kept d _ (emptied .sound) s valid))
 
   pub copy-keeps : (target source : ℕ) → Keeps mem (copyOut mem target source)
   unfolding copyOut when
-  copy-keeps target source = on-space _ target _ (λ valid. go valid _ (ltb source (d .spaces)) refl)
+  copy-keeps target source = on-space mem sound _ _ target (λ valid. go valid _ (ltb source (d .spaces)) refl)
     where
       go :
           target < d .spaces → (r : Reply) (b : Bool) → ltb source (d .spaces) ≡ b
@@ -101,11 +84,11 @@ module _ (mem : List ℕ) (sound : Sound mem) where
 
   pub alloc-keeps : Keeps mem (allocOut mem)
   unfolding allocOut
-  alloc-keeps = world-by-cases (Keeps mem) _ mem _ (λ bad. kept-refl d mem sound) (λ sound. take-step-kept d mem sound)
+  alloc-keeps = on-world mem sound _ _ (take-step-kept d mem sound)
 
   pub create-keeps : (s rights object : ℕ) → rights < 2 ^ 32 → Keeps mem (createOut mem s rights object)
   unfolding createOut
-  create-keeps s rights object fits = on-space _ s _ (λ valid. taken valid (takenId d mem))
+  create-keeps s rights object fits = on-space mem sound _ _ s (λ valid. taken valid (takenId d mem))
     where
       after : List ℕ
       after = takeStep d mem
@@ -124,7 +107,7 @@ module _ (mem : List ℕ) (sound : Sound mem) where
 
   pub revoke-keeps : (s id : ℕ) → Keeps mem (revokeOut mem s id)
   unfolding revokeOut
-  revoke-keeps s id = on-space _ s _ (λ valid. go valid (made id (generationOf (spaceOf d s mem)) 0 0))
+  revoke-keeps s id = on-space mem sound _ _ s (λ valid. go valid (made id (generationOf (spaceOf d s mem)) 0 0))
     where
       go : s < d .spaces → (m : Made) → Keeps mem (revokeMade d s mem m)
       go valid (Token t) = remove-step-kept d mem sound s valid (t .0)

@@ -18,7 +18,7 @@ use Rattle.space.specs.Lookup.{exactly, lookedUp}
 use Rattle.space.specs.Words.{generationOf, slotWords}
 use Rattle.space.proofs.laws.Insert.{insert-by-cases, refused-changes-nothing}
 use Rattle.steps.specs.Enter.{onSpace}
-use Rattle.steps.specs.Steps.{spaceOf, isEntry, insertStep, removeStep, takenId, takeStep}
+use Rattle.steps.specs.Steps.{spaceOf, isEntry, insertStep, removeStep, takenId, takeStep, newEntry}
 use Rattle.steps.specs.declared.Taken.{Taken}
 use Rattle.steps.specs.declared.Taken.the-variants.{Id, Exhausted}
 use Rattle.steps.proofs.Entries.{insert-refused, remove-absent}
@@ -36,10 +36,11 @@ use Rattle.world.specs.Numbers.{numbersOf}
 use Rattle.world.specs.Regions.{space, startOf, sizeOf}
 use Rattle.world.specs.Sound.{Sound}
 use Rattle.world.specs.declared.Numbers.{Numbers}
-use Rattle.space_calls.specs.Calls.{lookupOut, lookupEntryOut, checkRightsOut, newEntry, insertCallOut, removeOut, incrementOut, clearOut, revokeAllOut, copyOut, takenReply, allocOut, createMade, createTaken, createOut, revokeMade, revokeOut}
-use Rattle.space_calls.specs.Replies.{Left, refuse, foundReply}
-use Rattle.space_calls.specs.declared.Reply.{Reply}
-use Rattle.space_calls.proofs.laws.Entered.{world-by-cases, space-by-cases, space-called}
+use Rattle.space_calls.specs.Calls.{lookupOut, lookupEntryOut, checkRightsOut, insertCallOut, removeOut, incrementOut, clearOut, revokeAllOut, copyOut, takenReply, allocOut, createMade, createTaken, createOut, revokeMade, revokeOut}
+use Rattle.steps.specs.Replies.{Left, refuse}
+use Rattle.space_calls.specs.Replies.{foundReply}
+use Rattle.steps.specs.declared.Reply.{Reply}
+use Rattle.steps.proofs.laws.Entered.{world-by-cases, space-by-cases, space-called}
 
 -- ---- the steps
 
@@ -141,7 +142,7 @@ module _ (mem : List ℕ) where
       world-by-cases (λ (out : Left Reply). out .reply .answer ≢ Done → out .memory ≡ mem) (refuse mem) mem _ (λ bad not-done. refl)
       (λ sound.
       take-by-cases d mem (λ t after. takenReply t .answer ≢ Done → after ≡ mem)
-      (λ some not-done. absurd (not-done refl)) (λ more not-done. absurd (not-done refl)) (λ not-done. refl))
+      (λ some not-done. absurd (not-done refl)) (λ none more not-done. absurd (not-done refl)) (λ not-done. refl))
 
   -- ---- lookups are counted, but for 26 and 20
 
@@ -212,7 +213,7 @@ module _ (mem : List ℕ) where
       none-taken =
           take-by-cases d mem (λ t after. t ≡ Exhausted → after ≡ mem)
           (λ some e. let z : _≡_ {A = ℕ} 0 1 = cc in absurd (omega arith))
-          (λ more e. let z : _≡_ {A = ℕ} 0 1 = cc in absurd (omega arith))
+          (λ none more e. let z : _≡_ {A = ℕ} 0 1 = cc in absurd (omega arith))
           (λ e. refl)
 
       not-12 : (e : CapabilityEntry) → insertOut (spaceOf d s after) e .answer ≢ SpaceIds

@@ -1,5 +1,5 @@
 -- What a step keeps: a sound memory sound, its numbers, its length and every word past the regions. And when it does: where a step leaves
--- the log and the queues alone, the memory is sound again by its spaces, its registry and their counts.
+-- the log and the queues alone, the memory is sound again by its spaces and the rules of its registry.
 use mathlib.Core.Path.{_≡_, refl, sym, ap, _∙_}
 use mathlib.Core.Logic.{_≢_}
 use mathlib.Core.Bool.{false}
@@ -8,9 +8,7 @@ use Prim.Native.Nat.{ℕ, _+_, _^_, _≤_, _<_}
 use native.Mathlib.Omega.{arith}
 use lib.ListN.{length, getD, set, drop, length-set}
 use lib.Seq.{getD-set-other}
-use Rattle.registry.specs.Rules.{RegisteredRules, RecycledRules}
-use Rattle.registry.specs.Sound.{Held}
-use Rattle.registry.specs.Words.{idAt, stateAt}
+use Rattle.registry.specs.Rules.{RegistryRules}
 use Rattle.space.specs.Sound.{SoundSpace}
 use Rattle.world.specs.Layout.{Valid, same}
 use Rattle.world.specs.Numbers.{numbersOf, nextOf, registeredOf, recycledOf, loggedOf, numbers-set}
@@ -50,7 +48,6 @@ kept-sound mem mem′ kept = rw (kept .numbers) (kept .sound)
 
 pub record Apart (d : Numbers) (mem mem′ : List ℕ) : Type 0 where
   pub numbers : numbersOf mem′ ≡ numbersOf mem
-  pub registered : registeredOf mem′ ≡ registeredOf mem
   pub logged : loggedOf mem′ ≡ loggedOf mem
   pub same-length : length mem′ ≡ length mem
   pub past : drop (lengthFor d) mem′ ≡ drop (lengthFor d) mem
@@ -60,7 +57,6 @@ pub record Apart (d : Numbers) (mem mem′ : List ℕ) : Type 0 where
 pub apart-trans : (d : Numbers) (mem mem′ mem″ : List ℕ) → Apart d mem mem′ → Apart d mem′ mem″ → Apart d mem mem″
 apart-trans d mem mem′ mem″ h g = record {
   numbers = g .numbers ∙ h .numbers;
-  registered = g .registered ∙ h .registered;
   logged = g .logged ∙ h .logged;
   same-length = g .same-length ∙ h .same-length;
   past = g .past ∙ h .past;
@@ -74,7 +70,6 @@ pub region-apart :
     → ((q : ℕ) → same r (queue q) ≡ false) → Apart d mem (onRegion d r f mem)
 region-apart d r f mem ch no-head no-log no-queue = record {
   numbers = numbers-kept d r f mem ch no-head;
-  registered = head-kept d r f mem ch no-head 11 (omega arith);
   logged = head-kept d r f mem ch no-head 13 (omega arith);
   same-length = length-kept d r f mem ch;
   past = past-kept d r f mem ch;
@@ -88,10 +83,9 @@ module _ (d : Numbers) (mem : List ℕ) (long : lengthFor d ≤ length mem) (i v
   set-view r valid differ =
       rw (set-head d mem i v l) (view-other d head (λ ws. set ws i v) mem (set-changes d head mem i v tt long) r valid differ)
 
-  pub set-apart : 5 ≤ i → i ≢ 11 → i ≢ 13 → Apart d mem (set mem i v)
-  set-apart low no-registered no-logged = record {
+  pub set-apart : 5 ≤ i → i ≢ 13 → Apart d mem (set mem i v)
+  set-apart low no-logged = record {
     numbers = numbers-set mem i v low;
-    registered = getD-set-other mem i 11 v 0 (omega arith);
     logged = getD-set-other mem i 13 v 0 (omega arith);
     same-length = length-set mem i v;
     past = rw (set-head d mem i v l) (past-kept d head (λ ws. set ws i v) mem (set-changes d head mem i v tt long));
@@ -102,21 +96,23 @@ module _ (d : Numbers) (mem : List ℕ) (long : lengthFor d ≤ length mem) (i v
 -- ---- sound again
 
 module _ (d : Numbers) (mem : List ℕ) (sound : SoundAt d mem) where
-  pub registered-rules : RegisteredRules (d .places) (registeredOf mem) (nextOf mem) (view d registry mem)
-  registered-rules = record {
-    differ = sound .ids-differ;
-    issued = sound .ids-issued;
-    linked = sound .linked;
-    has-list = sound .listed;
-    short = sound .short;
-    cascaded = sound .cascaded;
-  }
-
-  pub recycled-rules : RecycledRules (d .places) (registeredOf mem) (recycledOf mem) (nextOf mem) (view d registry mem)
-  recycled-rules = record {
-    ascend = sound .recycled-ascend;
-    unregistered = sound .recycled-unregistered;
-    issued = sound .recycled-issued;
+  pub registry-rules :
+      RegistryRules (d .places) (registeredOf mem) (recycledOf mem) (nextOf mem) (spacesWith d mem) (view d registry mem)
+  registry-rules = record {
+    registered = record {
+      differ = sound .ids-differ;
+      issued = sound .ids-issued;
+      linked = sound .linked;
+      has-list = sound .listed;
+      short = sound .short;
+      cascaded = sound .cascaded;
+    };
+    recycled = record {
+      ascend = sound .recycled-ascend;
+      unregistered = sound .recycled-unregistered;
+      issued = sound .recycled-issued;
+    };
+    held = sound .held;
   }
 
   module _ (mem′ : List ℕ) (apart : Apart d mem mem′) where
@@ -126,33 +122,32 @@ module _ (d : Numbers) (mem : List ℕ) (sound : SoundAt d mem) where
     queue-pid : (q : ℕ) → q < d .queues → pids d mem′ q ≡ pids d mem q
     queue-pid q l = ap (λ qu. getD qu 0 0) (apart .same-queue q l)
 
-    -- The memory is sound by the new next id, the new count of recycled ids and the new registry.
+    -- The memory is sound by the new numbers of registered and recycled ids, the new next id and the new registry.
     pub sound-again :
-        (next m : ℕ) (rg : List ℕ) → nextOf mem′ ≡ next → recycledOf mem′ ≡ m → view d registry mem′ ≡ rg
-        → 1 ≤ next → next ≤ 2 ^ 48 → m ≤ d .places + 1 → RegisteredRules (d .places) (registeredOf mem) next rg
-        → RecycledRules (d .places) (registeredOf mem) m next rg
+        (n m next : ℕ) (rg : List ℕ) → registeredOf mem′ ≡ n → recycledOf mem′ ≡ m → nextOf mem′ ≡ next → view d registry mem′ ≡ rg
+        → n ≤ d .places → m ≤ d .places + 1 → 1 ≤ next → next ≤ 2 ^ 48
         → ((s : ℕ) → s < d .spaces → SoundSpace (d .most) (view d (space s) mem′))
-        → Held (registeredOf mem) (idAt rg) (stateAt (d .places) rg) (spacesWith d mem′) → Kept d mem mem′
-    sound-again next m rg is-next is-m is-rg low high fit registered recycled spaces held = record {
+        → RegistryRules (d .places) n m next (spacesWith d mem′) rg → Kept d mem mem′
+    sound-again n m next rg is-n is-m is-next is-rg fit recycled-fit low high spaces rules = record {
       sound = record {
         in-range = sound .in-range;
         long-enough = rw (apart .same-length) (sound .long-enough);
-        registered-fit = rw (apart .registered) (sound .registered-fit);
+        registered-fit = rw is-n fit;
         logged-fit = rw (apart .logged) (sound .logged-fit);
         spaces = spaces;
-        held = rw (apart .registered, is-rg) held;
-        ids-differ = rw (apart .registered, is-rg) (registered .differ);
-        ids-issued = rw (apart .registered, is-rg, is-next) (registered .issued);
+        held = rw (is-n, is-rg) (rules .held);
+        ids-differ = rw (is-n, is-rg) (rules .registered .differ);
+        ids-issued = rw (is-n, is-rg, is-next) (rules .registered .issued);
         next-low = rw is-next low;
         next-high = rw is-next high;
-        recycled-ascend = rw (is-m, is-rg) (recycled .ascend);
-        recycled-unregistered = rw (apart .registered, is-m, is-rg) (recycled .unregistered);
-        recycled-issued = rw (is-m, is-rg, is-next) (recycled .issued);
-        recycled-fit = rw is-m fit;
-        linked = rw (apart .registered, is-rg) (registered .linked);
-        listed = rw (apart .registered, is-rg) (registered .has-list);
-        short = rw (apart .registered, is-rg) (registered .short);
-        cascaded = rw (apart .registered, is-rg) (registered .cascaded);
+        recycled-ascend = rw (is-m, is-rg) (rules .recycled .ascend);
+        recycled-unregistered = rw (is-n, is-m, is-rg) (rules .recycled .unregistered);
+        recycled-issued = rw (is-m, is-rg, is-next) (rules .recycled .issued);
+        recycled-fit = rw is-m recycled-fit;
+        linked = rw (is-n, is-rg) (rules .registered .linked);
+        listed = rw (is-n, is-rg) (rules .registered .has-list);
+        short = rw (is-n, is-rg) (rules .registered .short);
+        cascaded = rw (is-n, is-rg) (rules .registered .cascaded);
         pairs-coded = rw (apart .logged, apart .same-log) (sound .pairs-coded);
         pairs-differ = rw (apart .logged, apart .same-log) (sound .pairs-differ);
         queues = λ q l some. rw (apart .same-queue q l) (sound .queues q l (rw (queue-length q l) at some));

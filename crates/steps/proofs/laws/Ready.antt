@@ -1,15 +1,17 @@
 -- A sound memory has what the steps ask of it.
 use mathlib.Core.List.{List}
+use mathlib.Core.Logic.{by-cases}
 use Prim.Native.Nat.{ℕ, _<_, _≤_}
+use native.Mathlib.Decide.{decLt}
 use native.Mathlib.Omega.{arith}
 use Rattle.space.specs.Sound.{SpaceOf}
 use Rattle.world.specs.Layout.{inside}
 use Rattle.world.specs.Numbers.{numbersOf}
 use Rattle.world.specs.Regions.{head, space, widthOf, lengthFor, startOf, view}
-use Rattle.world.specs.Sound.{SoundAt, Sound}
+use Rattle.world.specs.Sound.{SoundAt, Sound, lengths}
 use Rattle.world.specs.Views.{length-view}
 use Rattle.world.specs.declared.Numbers.{Numbers}
-use Rattle.steps.specs.Ready.{Ready}
+use Rattle.steps.specs.Ready.{Ready, QueuesReady}
 
 pub head-fits : (d : Numbers) → 16 ≤ lengthFor d
 unfolding startOf
@@ -31,6 +33,13 @@ module _ (d : Numbers) (mem : List ℕ) (sound : SoundAt d mem) where
     registered-fit = sound .registered-fit;
     recycled-fit = sound .recycled-fit;
     spaces = space-of;
+  }
+
+  pub queues-ready-at : QueuesReady d mem
+  queues-ready-at = record {
+    fits = ready-at .fits;
+    firsts = λ q l used. sound .queues q l used .coded-first;
+    lengths = λ q l. by-cases (decLt 0 (lengths d mem q)) (λ used. sound .queues q l used .short) (λ free. omega arith);
   }
 
 pub sound-ready : (mem : List ℕ) → Sound mem → Ready (numbersOf mem) mem

@@ -19,7 +19,7 @@ use Rattle.world.specs.Views.{Change, length-kept, view-same, view-other, head-
 use Rattle.world.specs.declared.Numbers.{Numbers}
 use Rattle.steps.proofs.laws.Ready.{space-of}
 use Rattle.steps.proofs.laws.SpaceChanged.{same-spaces, other-space, space-changed}
-use Rattle.steps.proofs.laws.Kept.{Kept, Apart, apart-trans, region-apart, registered-rules, recycled-rules, sound-again}
+use Rattle.steps.proofs.laws.Kept.{Kept, Apart, apart-trans, region-apart, registry-rules, sound-again}
 
 -- A sound space that stays one keeps its number of words.
 pub space-change :
@@ -96,8 +96,12 @@ module _ (d : Numbers) (s : ℕ) (f g : List ℕ → List ℕ) (mem : List ℕ) 
   step-kept =
       let n : ℕ = registeredOf mem in
       let next : ℕ = nextOf mem in
-      sound-again d mem sound after apart next (recycledOf mem) (g (view d registry mem)) (same-word 5 (omega arith))
-      (same-word 12 (omega arith)) new-registry (sound .next-low) (sound .next-high) (sound .recycled-fit)
-      (holders-only-registered (d .places) _ _ (st .only-holders) n next (sound .registered-fit) (registered-rules d mem sound))
-      (holders-only-recycled (d .places) _ _ (st .only-holders) n next (sound .registered-fit) _ (recycled-rules d mem sound))
-      spaces few
+      let rules = registry-rules d mem sound in
+      sound-again d mem sound after apart n (recycledOf mem) next (g (view d registry mem)) (same-word 11 (omega arith))
+      (same-word 12 (omega arith)) (same-word 5 (omega arith)) new-registry (sound .registered-fit) (sound .recycled-fit)
+      (sound .next-low) (sound .next-high) spaces
+      (record {
+        registered = holders-only-registered (d .places) _ _ (st .only-holders) n next (sound .registered-fit) (rules .registered);
+        recycled = holders-only-recycled (d .places) _ _ (st .only-holders) n next (sound .registered-fit) _ (rules .recycled);
+        held = few;
+      })

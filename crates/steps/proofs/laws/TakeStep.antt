@@ -1,31 +1,29 @@
--- Taking an id keeps a sound memory, and the id taken is free: in 1..2^48-1, issued, not registered, and recycled no more.
+-- Taking an id keeps a sound memory, and the id taken is free: in 1..2^48-1, issued, not registered, and recycled no more. And there is
+-- room to give it back.
 use mathlib.Core.Path.{_≡_, refl, sym, ap, subst, _∙_}
 use mathlib.Core.Logic.{_≢_}
 use mathlib.Core.Bool.{Bool, true, false}
 use mathlib.Core.List.{List}
 use Prim.Native.Nat.{ℕ, _+_, _-_, _*_, _^_, _≤_, _<_}
 use native.Mathlib.Omega.{arith}
-use borrow.Author.Tests.{ltb-true}
+use borrow.Author.Tests.{ltb-true, ltb-false}
 use lib.Dec.{ltb}
 use lib.ListN.{length, set}
-use lib.Seq.{getD-set-same, getD-set-other}
 use Rattle.base.specs.Choose.{pick}
 use Rattle.registry.specs.Ids.{firstTaken}
 use Rattle.registry.specs.IdsLaws.{length-taken, taken-columns, taken-registered, taken-others, taken-unregistered, taken-smallest}
 use Rattle.registry.specs.Sound.{Held}
 use Rattle.registry.specs.Words.{idAt, stateAt, recycledAt}
-use Rattle.world.specs.Layout.{Valid, same, inside}
 use Rattle.world.specs.Numbers.{nextOf, registeredOf, recycledOf}
-use Rattle.world.specs.Regions.{Region, head, space, registry, lengthFor, startOf, view, onRegion}
+use Rattle.world.specs.Regions.{registry, view, onRegion}
 use Rattle.world.specs.Sound.{ids, recycled, spacesWith, SoundAt}
-use Rattle.world.specs.Views.{Change, length-view, length-kept, view-same, view-other, head-kept}
+use Rattle.world.specs.Views.{length-view}
 use Rattle.world.specs.declared.Numbers.{Numbers}
 use Rattle.steps.specs.Steps.{takenId, takeStep}
 use Rattle.steps.specs.declared.Taken.{Taken}
 use Rattle.steps.specs.declared.Taken.the-variants.{Id, Exhausted}
-use Rattle.steps.proofs.laws.Ready.{head-fits}
-use Rattle.steps.proofs.laws.SpaceChanged.{same-spaces}
-use Rattle.steps.proofs.laws.Kept.{Kept, Apart, kept-refl, apart-trans, region-apart, set-view, set-apart, registered-rules, recycled-rules, sound-again}
+use Rattle.steps.proofs.laws.Kept.{Kept, kept-refl, registry-rules}
+use Rattle.steps.proofs.laws.RegistryChanged.{RegistryChanged, registry-changed, word-changed, changed-kept, recycled-changed-kept}
 
 -- The id i is free to be registered.
 pub record Free (d : Numbers) (mem : List ℕ) (i : ℕ) : Type 0 where
@@ -35,12 +33,13 @@ pub record Free (d : Numbers) (mem : List ℕ) (i : ℕ) : Type 0 where
   pub unregistered : (k : ℕ) → k < registeredOf mem → ids d mem k ≢ i
   pub not-recycled : (k : ℕ) → k < recycledOf mem → recycled d mem k ≢ i
 
--- The three ways of taking: the smallest recycled id, the next one, or none.
+-- The three ways of taking: the smallest recycled id, the next one where none is recycled, or none.
 pub take-by-cases :
     (d : Numbers) (mem : List ℕ) (P : Taken → List ℕ → Type 0)
     → (0 < recycledOf mem
     → P (Id (recycled d mem 0)) (set (onRegion d registry (firstTaken (d .places) (recycledOf mem)) mem) 12 (recycledOf mem - 1)))
-    → (nextOf mem < 2 ^ 48 → P (Id (nextOf mem)) (set mem 5 (nextOf mem + 1))) → P Exhausted mem → P (takenId d mem) (takeStep d mem)
+    → (recycledOf mem ≤ 0 → nextOf mem < 2 ^ 48 → P (Id (nextOf mem)) (set mem 5 (nextOf mem + 1))) → P Exhausted mem
+    → P (takenId d mem) (takeStep d mem)
 unfolding takenId takeStep
 take-by-cases d mem P again new none = go (ltb 0 (recycledOf mem)) refl (ltb (nextOf mem) (2 ^ 48)) refl
   where
@@ -50,162 +49,144 @@ take-by-cases d mem P again new none = go (ltb 0 (recycledOf mem)) refl (ltb (ne
         (pick b (set (onRegion d registry (firstTaken (d .places) (recycledOf mem)) mem) 12 (recycledOf mem - 1))
         (pick c (set mem 5 (nextOf mem + 1)) mem))
     go true h c e = again (ltb-true 0 (recycledOf mem) h)
-    go false h true e = new (ltb-true (nextOf mem) (2 ^ 48) e)
+    go false h true e = new (ltb-false 0 (recycledOf mem) h) (ltb-true (nextOf mem) (2 ^ 48) e)
     go false h false e = none
 
 module _ (d : Numbers) (mem : List ℕ) (sound : SoundAt d mem) where
   abbrev rg : List ℕ
   rg = view d registry mem
 
+  abbrev n : ℕ
+  n = registeredOf mem
+
+  abbrev m : ℕ
+  m = recycledOf mem
+
+  abbrev next : ℕ
+  next = nextOf mem
+
   -- ---- the smallest recycled id
 
   module _ (some : 0 < recycledOf mem) where
-    abbrev m : ℕ
-    m = recycledOf mem
-
-    abbrev n : ℕ
-    n = registeredOf mem
-
-    abbrev next : ℕ
-    next = nextOf mem
-
-    abbrev between : List ℕ
-    between = onRegion d registry (firstTaken (d .places) m) mem
+    abbrev left : List ℕ
+    left = firstTaken (d .places) m rg
 
     abbrev after : List ℕ
-    after = set between 12 (m - 1)
+    after = set (onRegion d registry (firstTaken (d .places) m) mem) 12 (m - 1)
 
     long : 5 * d .places + 1 ≤ length rg
     long = omega (arith, length-view d registry mem tt (sound .long-enough))
 
-    in-registry : Change d registry (firstTaken (d .places) m) mem
-    in-registry = record { valid = tt; long = sound .long-enough; kept = length-taken (d .places) m rg some (sound .recycled-fit) long }
+    one-less : RegistryChanged d left 12 (m - 1) mem after
+    one-less =
+        registry-changed d mem (sound .long-enough) (firstTaken (d .places) m) 12 (m - 1) (omega arith) (omega arith)
+        (length-taken (d .places) m rg some (sound .recycled-fit) long)
 
-    fits : lengthFor d ≤ length between
-    fits = rw (length-kept d registry (firstTaken (d .places) m) mem in-registry) (sound .long-enough)
+    same-registered : registeredOf after ≡ n
+    same-registered = one-less .same-word 11 (omega arith) (λ e. omega arith)
 
-    apart : Apart d mem after
-    apart =
-        apart-trans d mem between after
-        (region-apart d registry (firstTaken (d .places) m) mem in-registry refl refl (λ q. refl))
-        (set-apart d between fits 12 (m - 1) (omega arith) (omega arith) (λ e. omega arith) (λ e. omega arith))
+    same-next : nextOf after ≡ next
+    same-next = one-less .same-word 5 (omega arith) (λ e. omega arith)
 
-    same-next : nextOf after ≡ nextOf mem
-    same-next =
-        getD-set-other between 12 5 (m - 1) 0 (λ e. omega arith)
-        ∙ head-kept d registry (firstTaken (d .places) m) mem in-registry refl 5 (omega arith)
-
-    one-less : recycledOf after ≡ m - 1
-    one-less = getD-set-same between 12 (m - 1) 0 (omega (arith, fits, head-fits d))
-
-    new-registry : view d registry after ≡ firstTaken (d .places) m rg
-    new-registry =
-        set-view d between fits 12 (m - 1) (omega arith) registry tt refl
-        ∙ view-same d registry (firstTaken (d .places) m) mem in-registry
-
-    same-space : (s : ℕ) → s < d .spaces → view d (space s) after ≡ view d (space s) mem
-    same-space s l =
-        set-view d between fits 12 (m - 1) (omega arith) (space s) l refl
-        ∙ view-other d registry (firstTaken (d .places) m) mem in-registry (space s) l refl
-
-    others-held : Held n (idAt (firstTaken (d .places) m rg)) (stateAt (d .places) (firstTaken (d .places) m rg)) (spacesWith d after)
+    others-held : Held n (idAt left) (stateAt (d .places) left) (spacesWith d mem)
     others-held k l =
         let as-was = taken-columns (d .places) m rg some (sound .recycled-fit) long in
         let below : k < d .places = omega (arith, sound .registered-fit) in
-        rw (as-was (2 * d .places + k) (omega arith), as-was k (omega arith), same-spaces d mem after same-space) (sound .held k l)
+        rw (as-was (2 * d .places + k) (omega arith), as-was k (omega arith)) (sound .held k l)
 
     recycled-kept : Kept d mem after
     recycled-kept =
-        sound-again d mem sound after apart next (m - 1) (firstTaken (d .places) m rg) same-next one-less new-registry
-        (sound .next-low)
-        (sound .next-high)
-        (omega (arith, sound .recycled-fit))
-        (taken-registered (d .places) m rg some (sound .recycled-fit) long n next (sound .registered-fit) (registered-rules d mem sound))
-        (taken-others (d .places) m rg some (sound .recycled-fit) long n next (sound .registered-fit) (recycled-rules d mem sound))
-        (λ s l. rw (same-space s l) (sound .spaces s l))
-        others-held
+        let rules = registry-rules d mem sound in
+        recycled-changed-kept d mem sound left (m - 1) after one-less (omega (arith, sound .recycled-fit))
+        (record {
+          registered = taken-registered (d .places) m rg some (sound .recycled-fit) long n next (sound .registered-fit) (rules .registered);
+          recycled = taken-others (d .places) m rg some (sound .recycled-fit) long n next (sound .registered-fit) (rules .recycled);
+          held = others-held;
+        })
 
     recycled-free : Free d after (recycled d mem 0)
     recycled-free =
         let (low, high) = sound .recycled-issued 0 some in
+        let rules = registry-rules d mem sound .recycled in
         record {
           positive = low;
           fits = omega (arith, sound .next-high);
           issued = rw same-next high;
           unregistered = λ k l e.
-              taken-unregistered (d .places) m rg some (sound .recycled-fit) long n next (sound .registered-fit)
-              (recycled-rules d mem sound) k (rw (apart .registered) at l) (sym e ∙ ap (λ ws. idAt ws k) new-registry);
+              taken-unregistered (d .places) m rg some (sound .recycled-fit) long n next (sound .registered-fit) rules k
+              (rw same-registered at l) (sym e ∙ ap (λ ws. idAt ws k) (one-less .new-registry));
           not-recycled = λ k l e.
               let smallest =
-              taken-smallest (d .places) m rg some (sound .recycled-fit) long n next (sound .registered-fit)
-              (recycled-rules d mem sound) k (rw one-less at l) in
-              omega (arith, smallest, ap (λ ws. recycledAt (d .places) ws k) new-registry);
+              taken-smallest (d .places) m rg some (sound .recycled-fit) long n next (sound .registered-fit) rules k
+              (rw (one-less .new-word) at l) in
+              omega (arith, smallest, ap (λ ws. recycledAt (d .places) ws k) (one-less .new-registry));
         }
 
   -- ---- the next id
 
   module _ (more : nextOf mem < 2 ^ 48) where
     abbrev upped : List ℕ
-    upped = set mem 5 (nextOf mem + 1)
+    upped = set mem 5 (next + 1)
 
-    same-view : (r : Region) → Valid d r → same head r ≡ false → view d r upped ≡ view d r mem
-    same-view = set-view d mem (sound .long-enough) 5 (nextOf mem + 1) (omega arith)
+    one-more : RegistryChanged d rg 5 (next + 1) mem upped
+    one-more = word-changed d mem (sound .long-enough) 5 (next + 1) (omega arith) (omega arith)
 
-    new-next : nextOf upped ≡ nextOf mem + 1
-    new-next = getD-set-same mem 5 (nextOf mem + 1) 0 (omega (arith, sound .long-enough, head-fits d))
+    registered-as-was : registeredOf upped ≡ n
+    registered-as-was = one-more .same-word 11 (omega arith) (λ e. omega arith)
 
-    same-recycled : recycledOf upped ≡ recycledOf mem
-    same-recycled = getD-set-other mem 5 12 (nextOf mem + 1) 0 (λ e. omega arith)
-
-    same-registered : registeredOf upped ≡ registeredOf mem
-    same-registered = getD-set-other mem 5 11 (nextOf mem + 1) 0 (λ e. omega arith)
+    recycled-as-was : recycledOf upped ≡ m
+    recycled-as-was = one-more .same-word 12 (omega arith) (λ e. omega arith)
 
     next-kept : Kept d mem upped
     next-kept =
-        sound-again d mem sound upped
-        (set-apart d mem (sound .long-enough) 5 (nextOf mem + 1) (omega arith) (omega arith) (λ e. omega arith) (λ e. omega arith))
-        (nextOf mem + 1) (recycledOf mem) rg new-next same-recycled (same-view registry tt refl)
-        (omega arith)
-        (omega arith)
-        (sound .recycled-fit)
+        changed-kept d mem sound rg 5 (next + 1) upped one-more n m (next + 1) registered-as-was recycled-as-was (one-more .new-word)
+        (sound .registered-fit) (sound .recycled-fit) (omega arith) (omega arith)
         (record {
-          differ = sound .ids-differ;
-          issued = λ k l. omega (arith, sound .ids-issued k l);
-          linked = sound .linked;
-          has-list = sound .listed;
-          short = sound .short;
-          cascaded = sound .cascaded;
+          registered = record {
+            differ = sound .ids-differ;
+            issued = λ k l. omega (arith, sound .ids-issued k l);
+            linked = sound .linked;
+            has-list = sound .listed;
+            short = sound .short;
+            cascaded = sound .cascaded;
+          };
+          recycled = record {
+            ascend = sound .recycled-ascend;
+            unregistered = sound .recycled-unregistered;
+            issued = λ k l. omega (arith, sound .recycled-issued k l);
+          };
+          held = sound .held;
         })
-        (record {
-          ascend = sound .recycled-ascend;
-          unregistered = sound .recycled-unregistered;
-          issued = λ k l. omega (arith, sound .recycled-issued k l);
-        })
-        (λ s l. rw (same-view (space s) l refl) (sound .spaces s l))
-        (λ k l. rw (same-spaces d mem upped (λ s u. same-view (space s) u refl)) (sound .held k l))
 
-    next-free : Free d upped (nextOf mem)
+    next-free : Free d upped next
     next-free = record {
       positive = sound .next-low;
       fits = more;
-      issued = rw new-next (omega arith);
+      issued = rw (one-more .new-word) (omega arith);
       unregistered = λ k l e.
-          let is : ids d mem k ≡ nextOf mem = sym (ap (λ ws. idAt ws k) (same-view registry tt refl)) ∙ e in
-          omega (arith, sound .ids-issued k (rw same-registered at l));
+          let is : ids d mem k ≡ next = sym (ap (λ ws. idAt ws k) (one-more .new-registry)) ∙ e in
+          omega (arith, sound .ids-issued k (rw registered-as-was at l));
       not-recycled = λ k l e.
-          let is : recycled d mem k ≡ nextOf mem = sym (ap (λ ws. recycledAt (d .places) ws k) (same-view registry tt refl)) ∙ e in
-          omega (arith, sound .recycled-issued k (rw same-recycled at l));
+          let is : recycled d mem k ≡ next = sym (ap (λ ws. recycledAt (d .places) ws k) (one-more .new-registry)) ∙ e in
+          omega (arith, sound .recycled-issued k (rw recycled-as-was at l));
     }
 
   -- ---- either
 
   pub take-step-kept : Kept d mem (takeStep d mem)
   take-step-kept =
-      take-by-cases d mem (λ t after. Kept d mem after) recycled-kept next-kept (kept-refl d mem sound)
+      take-by-cases d mem (λ t after. Kept d mem after) recycled-kept (λ none. next-kept) (kept-refl d mem sound)
 
   pub taken-free : (i : ℕ) → takenId d mem ≡ Id i → Free d (takeStep d mem) i
   taken-free i =
       take-by-cases d mem (λ t after. t ≡ Id i → Free d after i)
       (λ some e. subst (Free d _) (cc) (recycled-free some))
-      (λ more e. subst (Free d _) (cc) (next-free more))
+      (λ none more e. subst (Free d _) (cc) (next-free more))
+      (λ e. let z : _≡_ {A = ℕ} 0 1 = cc in absurd (omega arith))
+
+  pub taken-room : (i : ℕ) → takenId d mem ≡ Id i → recycledOf (takeStep d mem) ≤ d .places
+  taken-room i =
+      take-by-cases d mem (λ t after. t ≡ Id i → recycledOf after ≤ d .places)
+      (λ some e. omega (arith, one-less some .new-word, sound .recycled-fit))
+      (λ none more e. omega (arith, recycled-as-was more))
       (λ e. let z : _≡_ {A = ℕ} 0 1 = cc in absurd (omega arith))

@@ -2,7 +2,7 @@
 use borrow.Author.Needs.{needs}
 use mathlib.Core.Path.{refl}
 use Rattle.steps.proofs.Entering.{space-refusal, space-call, space-ready}
-use Rattle.space_calls.proofs.Leaving.{left-is}
+use Rattle.steps.proofs.Leaving.{left-is}
 use Rattle.space_calls.specs.Calls.{clearOut}
 use Rattle.space_calls.proofs.changes.clear.Statement.{statement}
 use Rattle.space_calls.proofs.changes.clear.Tie as tie

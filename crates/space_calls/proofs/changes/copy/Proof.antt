@@ -7,9 +7,9 @@ use Rattle.answers.specs.declared.Answer.the-variants.{Done}
 use Rattle.base.specs.Choose.{when-yes, when-no}
 use Rattle.steps.proofs.Entering.{space-refusal, space-call, space-ready}
 use Rattle.steps.specs.declared.Copied.{Copied}
-use Rattle.space_calls.proofs.Leaving.{left-is}
+use Rattle.steps.proofs.Leaving.{left-is}
 use Rattle.space_calls.specs.Calls.{copyOut}
-use Rattle.space_calls.specs.Replies.{replied}
+use Rattle.steps.specs.Replies.{replied}
 use Rattle.space_calls.proofs.changes.copy.Statement.{statement}
 use Rattle.space_calls.proofs.changes.copy.Tie as tie
 

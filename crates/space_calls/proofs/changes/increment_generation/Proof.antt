@@ -2,7 +2,7 @@
 use borrow.Author.Needs.{needs}
 use mathlib.Core.Path.{refl}
 use Rattle.steps.proofs.Entering.{space-refusal, space-call, space-ready}
-use Rattle.space_calls.proofs.Leaving.{left-is}
+use Rattle.steps.proofs.Leaving.{left-is}
 use Rattle.space_calls.specs.Calls.{incrementOut}
 use Rattle.space_calls.proofs.changes.increment_generation.Statement.{statement}
 use Rattle.space_calls.proofs.changes.increment_generation.Tie as tie

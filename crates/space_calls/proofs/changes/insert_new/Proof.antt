@@ -8,8 +8,8 @@ use mathlib.Core.Path.{_≡_, refl}
 use Rattle.base.specs.Choose.{pick}
 use Rattle.answers.specs.Number.{numberOf}
 use Rattle.answers.specs.declared.Answer.{Answer}
-use Rattle.space_calls.proofs.Leaving.{left-is}
-use Rattle.space_calls.specs.Replies.{replied}
+use Rattle.steps.proofs.Leaving.{left-is}
+use Rattle.steps.specs.Replies.{replied}
 use Rattle.space_calls.proofs.changes.insert_new.Statement.{statement}
 use Rattle.space_calls.proofs.changes.insert_new.Tie as tie
 

@@ -3,7 +3,7 @@ use borrow.Author.Needs.{needs}
 use mathlib.Core.Path.{refl, ap, _∙_}
 use Rattle.space.specs.declared.LookedUp.{LookedUp}
 use Rattle.steps.proofs.Entering.{space-refusal, space-call, space-ready}
-use Rattle.space_calls.proofs.Leaving.{left-is}
+use Rattle.steps.proofs.Leaving.{left-is}
 use Rattle.space_calls.specs.Calls.{removeOut}
 use Rattle.space_calls.specs.Replies.{objectReply}
 use Rattle.space_calls.proofs.changes.remove.Statement.{statement}

@@ -5,7 +5,7 @@ use Rattle.steps.proofs.Entering.{space-refusal, space-call, space-ready, space
 use Rattle.steps.proofs.laws.Kept.{kept-ready}
 use Rattle.steps.proofs.laws.SpaceSteps.{clear-step-kept}
 use Rattle.steps.specs.Steps.{nextStep}
-use Rattle.space_calls.proofs.Leaving.{left-is}
+use Rattle.steps.proofs.Leaving.{left-is}
 use Rattle.space_calls.specs.Calls.{revokeAllOut}
 use Rattle.space_calls.proofs.changes.revoke_all.Statement.{statement}
 use Rattle.space_calls.proofs.changes.revoke_all.Tie as tie

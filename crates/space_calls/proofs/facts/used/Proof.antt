@@ -4,7 +4,7 @@ use mathlib.Core.Path.{sym, ap, _∙_}
 use Rattle.steps.proofs.Entering.{space-refusal, space-call, space-ready}
 use Rattle.steps.specs.declared.Facts.{Facts}
 use Rattle.space_calls.specs.Calls.{usedOut}
-use Rattle.space_calls.specs.Replies.{done}
+use Rattle.steps.specs.Replies.{done}
 use Rattle.space_calls.proofs.facts.used.Statement.{statement}
 use Rattle.space_calls.proofs.facts.used.Tie as tie
 

@@ -2,7 +2,7 @@
 use borrow.Author.Needs.{needs}
 use mathlib.Core.Path.{refl, sym, ap, _∙_}
 use Rattle.steps.proofs.Entering.{world-refusal, world-call, world-ready}
-use Rattle.space_calls.proofs.Leaving.{left-is}
+use Rattle.steps.proofs.Leaving.{left-is}
 use Rattle.space_calls.specs.Calls.{takenReply, allocOut}
 use Rattle.space_calls.proofs.ids.alloc_cap_id.Statement.{statement}
 use Rattle.space_calls.proofs.ids.alloc_cap_id.Tie as tie

@@ -1,11 +1,10 @@
 -- Entered, an id is taken, and a token of it inserted.
 use borrow.Author.Needs.{needs}
-use denote.Ref.{now}
 use mathlib.Core.Path.{refl, sym, ap, ap₂, _∙_}
 use Rattle.steps.proofs.Entering.{space-refusal, space-call, space-ready, space-sound}
 use Rattle.steps.proofs.laws.Kept.{kept-ready}
 use Rattle.steps.proofs.laws.TakeStep.{take-step-kept}
-use Rattle.space_calls.proofs.Leaving.{left-is}
+use Rattle.steps.proofs.Leaving.{left-is}
 use Rattle.space_calls.specs.Calls.{createTaken, createOut}
 use Rattle.space_calls.proofs.ids.create_capability.Statement.{statement}
 use Rattle.space_calls.proofs.ids.create_capability.Tie as tie

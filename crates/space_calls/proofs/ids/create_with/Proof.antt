@@ -5,7 +5,7 @@ use mathlib.Core.Path.{refl, sym, ap, _∙_}
 use Rattle.steps.specs.Steps.{factsOf}
 use Rattle.steps.specs.declared.Facts.{Facts}
 use Rattle.token.specs.Token.{made}
-use Rattle.space_calls.proofs.Leaving.{left-is}
+use Rattle.steps.proofs.Leaving.{left-is}
 use Rattle.space_calls.specs.Calls.{createMade}
 use Rattle.space_calls.proofs.ids.create_with.Statement.{statement}
 use Rattle.space_calls.proofs.ids.create_with.Tie as tie

@@ -7,7 +7,7 @@ use Rattle.steps.proofs.Entering.{space-refusal, space-call, space-ready}
 use Rattle.steps.specs.Steps.{factsOf}
 use Rattle.steps.specs.declared.Facts.{Facts}
 use Rattle.token.specs.Token.{made}
-use Rattle.space_calls.proofs.Leaving.{left-is}
+use Rattle.steps.proofs.Leaving.{left-is}
 use Rattle.space_calls.specs.Calls.{revokeMade, revokeOut}
 use Rattle.space_calls.specs.Replies.{goneReply}
 use Rattle.space_calls.proofs.ids.revoke.Statement.{statement}

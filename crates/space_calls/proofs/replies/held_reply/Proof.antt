@@ -3,7 +3,8 @@ use mathlib.Core.Path.{sym, ap, _∙_}
 use borrow.Author.Needs.{needs}
 use Rattle.answers.specs.declared.Answer.the-variants.{Done}
 use Rattle.base.specs.Below.{one}
-use Rattle.space_calls.specs.Replies.{replied, heldReply}
+use Rattle.steps.specs.Replies.{replied}
+use Rattle.space_calls.specs.Replies.{heldReply}
 use Rattle.space_calls.proofs.replies.held_reply.Statement.{statement}
 use Rattle.space_calls.proofs.replies.held_reply.Tie as tie
 

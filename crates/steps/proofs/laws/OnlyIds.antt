@@ -74,4 +74,4 @@ module _ (d : Numbers) (mem : List ℕ) (sound : SoundAt d mem) where
       }
 
   pub take-step : OnlyIds d mem (takeStep d mem)
-  take-step = take-by-cases d mem (λ t after. OnlyIds d mem after) smallest (λ more. newest) (only-no-id d mem)
+  take-step = take-by-cases d mem (λ t after. OnlyIds d mem after) smallest (λ none more. newest) (only-no-id d mem)

@@ -5,7 +5,7 @@
 use mathlib.Core.List.{List}
 use mathlib.Core.Path.{_≡_, sym, ap, _∙_}
 use Prim.Native.Nat.{ℕ}
-use Rattle.space_calls.specs.Replies.{Left}
+use Rattle.steps.specs.Replies.{Left}
 
 -- A reading call: A is the type of its answer.
 pub one-answer : {A : Type 0} (out a b : A) → a ≡ out → b ≡ out → a ≡ b

@@ -10,13 +10,13 @@ use lib.Dec.{ltb}
 use Rattle.answers.specs.declared.Answer.{Answer}
 use Rattle.answers.specs.declared.Answer.the-variants.{Done, BadSpace, BadWorld}
 use Rattle.base.specs.Choose.{when}
 use Rattle.steps.specs.Enter.{onWorld, onSpace}
 use Rattle.world.specs.Numbers.{numbersOf}
 use Rattle.world.specs.Sound.{Sound, soundTest}
 use Rattle.world.specs.SoundLaws.{sound-exactly}
 use Rattle.world.specs.declared.Numbers.{Numbers}
-use Rattle.space_calls.specs.Replies.{Left, refuse}
-use Rattle.space_calls.specs.declared.Reply.{Reply}
+use Rattle.steps.specs.Replies.{Left, refuse}
+use Rattle.steps.specs.declared.Reply.{Reply}
 
 unsound : (mem : List ℕ) → soundTest mem ≡ false → ¬ Sound mem
 unsound mem t sound = true≢false (sym (sound-exactly mem .1 sound) ∙ t)

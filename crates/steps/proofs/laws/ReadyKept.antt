@@ -1,0 +1,356 @@
+-- Every step keeps what the steps ask of a memory, from that and from ranges alone, where the memory need not be sound; and what each
+-- leaves of the words of the head.
+use mathlib.Core.Path.{_≡_, refl, sym, _∙_}
+use mathlib.Core.Logic.{_≢_, by-cases}
+use mathlib.Core.Bool.{Bool, true, false}
+use mathlib.Core.List.{List}
+use Prim.Native.Nat.{ℕ, _+_, _-_, _*_, _%_, _^_, _≤_, _<_}
+use native.Mathlib.Decide.{ℕ-discrete, decLt}
+use native.Mathlib.Omega.{arith}
+use lib.Dec.{eqb}
+use lib.ListN.{length, getD, set, length-set}
+use lib.Seq.{getD-set-same, getD-set-other}
+use Rattle.answers.specs.Number.{numberOf}
+use Rattle.base.specs.Choose.{pick}
+use Rattle.registry.specs.CollectionLaws.{collects}
+use Rattle.registry.specs.HoldersLaws.{HoldersOnly, held-only, released-only, held-all-only, released-all-only}
+use Rattle.registry.specs.Ids.{firstTaken, recycledWith}
+use Rattle.registry.specs.IdsLaws.{length-taken, length-recycled-with}
+use Rattle.registry.specs.Registering.{registered, listGiven, unregistered, collected}
+use Rattle.registry.specs.RegisteringLaws.{length-registered, length-list-given, length-unregistered}
+use Rattle.space.specs.Change.{insertOut, removedToken, cleared, nextGeneration}
+use Rattle.space.specs.Copy.{copiedSpace}
+use Rattle.space.specs.Ids.{entryIds}
+use Rattle.space.specs.Lookup.{lookedUp, counted}
+use Rattle.space.specs.Sound.{SpaceOf}
+use Rattle.space.proofs.laws.Kept.{lookup-keeps, insert-keeps, remove-keeps, clear-keeps, next-keeps, copy-keeps}
+use Rattle.table.specs.Slots.{idOf}
+use Rattle.table.specs.declared.CapabilityEntry.{CapabilityEntry}
+use Rattle.world.specs.Numbers.{nextOf, registeredOf, recycledOf}
+use Rattle.world.specs.Regions.{space, registry, view, onRegion}
+use Rattle.world.specs.Views.{Change, length-view, length-kept, view-same, view-other, head-kept}
+use Rattle.world.specs.declared.Numbers.{Numbers}
+use Rattle.steps.specs.Ready.{Ready}
+use Rattle.steps.specs.Steps.{spaceOf, isEntry, lookupStep, nextStep, holdStep, releaseStep, holdAllStep, releaseAllStep, insertStep, removeStep, clearStep, copyStep, takenId, takeStep, registerStep, listStep, unregisterStep, recycleStep, collectStep, countStep}
+use Rattle.steps.specs.declared.Taken.{Taken}
+use Rattle.steps.specs.declared.Taken.the-variants.{Id}
+use Rattle.steps.proofs.Entries.{still-fits}
+use Rattle.steps.proofs.TakingIds.{takes-recycled, takes-next, takes-none}
+use Rattle.steps.proofs.laws.Kept.{set-view}
+use Rattle.steps.proofs.laws.SpaceChanged.{other-space}
+
+-- The memory is ready, and the words of the head are as they were.
+pub record Stays (d : Numbers) (mem after : List ℕ) : Type 0 where
+  pub ready : Ready d after
+  pub head : (i : ℕ) → i < 16 → getD after i 0 ≡ getD mem i 0
+
+-- The memory is ready, and of the words of the head word i alone is new, v.
+pub record Leaves (d : Numbers) (i v : ℕ) (mem after : List ℕ) : Type 0 where
+  pub ready : Ready d after
+  pub word : getD after i 0 ≡ v
+  pub others : (j : ℕ) → j < 16 → j ≢ i → getD after j 0 ≡ getD mem j 0
+
+stays-trans : (d : Numbers) (mem mid after : List ℕ) → Stays d mem mid → Stays d mid after → Stays d mem after
+stays-trans d mem mid after h g = record { ready = g .ready; head = λ i l. g .head i l ∙ h .head i l }
+
+-- ---- one change
+
+module _ (d : Numbers) (mem : List ℕ) (ready : Ready d mem) where
+  -- A memory of the same length is ready by its two counts and its spaces.
+  again :
+      (after : List ℕ) → length after ≡ length mem → registeredOf after ≤ d .places → recycledOf after ≤ d .places + 1
+      → ((s : ℕ) → s < d .spaces → SpaceOf (d .most) (spaceOf d s after)) → Ready d after
+  again after same registered recycled spaces = record {
+    fits = still-fits d mem after ready same;
+    head = rw same (ready .head);
+    registered-fit = registered;
+    recycled-fit = recycled;
+    spaces = spaces;
+  }
+
+  -- A space changes,
+  pub space-stays :
+      (s : ℕ) → s < d .spaces → (f : List ℕ → List ℕ) → SpaceOf (d .most) (f (spaceOf d s mem)) → Stays d mem (onRegion d (space s) f mem)
+  space-stays s valid f keeps =
+      let ch : Change d (space s) f mem =
+      record { valid = valid; long = ready .fits .long-enough; kept = keeps .size ∙ sym (ready .spaces s valid .size) } in
+      let same : (i : ℕ) → i < 16 → getD (onRegion d (space s) f mem) i 0 ≡ getD mem i 0 = head-kept d (space s) f mem ch refl in
+      record {
+        ready =
+            again (onRegion d (space s) f mem) (length-kept d (space s) f mem ch)
+            (omega (arith, same 11 (omega arith), ready .registered-fit))
+            (omega (arith, same 12 (omega arith), ready .recycled-fit))
+            (λ k l.
+            by-cases (ℕ-discrete k s)
+            (λ here. rw (here, view-same d (space s) f mem ch) keeps)
+            (λ other. rw (other-space d s f mem ch k l other) (ready .spaces k l)));
+        head = same;
+      }
+
+  -- the registry does,
+  pub registry-stays :
+      (f : List ℕ → List ℕ) → length (f (view d registry mem)) ≡ length (view d registry mem) → Stays d mem (onRegion d registry f mem)
+  registry-stays f kept =
+      let ch : Change d registry f mem = record { valid = tt; long = ready .fits .long-enough; kept = kept } in
+      let same : (i : ℕ) → i < 16 → getD (onRegion d registry f mem) i 0 ≡ getD mem i 0 = head-kept d registry f mem ch refl in
+      record {
+        ready =
+            again (onRegion d registry f mem) (length-kept d registry f mem ch)
+            (omega (arith, same 11 (omega arith), ready .registered-fit))
+            (omega (arith, same 12 (omega arith), ready .recycled-fit))
+            (λ k l. rw (view-other d registry f mem ch (space k) l refl) (ready .spaces k l));
+        head = same;
+      }
+
+  -- or a word of the head, in range where it is a count.
+  module _ (i v : ℕ) (inside : i < 16) (registered : i ≡ 11 → v ≤ d .places) (recycled : i ≡ 12 → v ≤ d .places + 1) where
+    new-word : getD (set mem i v) i 0 ≡ v
+    new-word = getD-set-same mem i v 0 (omega (arith, ready .head))
+
+    still-few : (j most : ℕ) → (i ≡ j → v ≤ most) → getD mem j 0 ≤ most → getD (set mem i v) j 0 ≤ most
+    still-few j most new old =
+        by-cases (ℕ-discrete j i)
+        (λ here. rw (here, new-word) (new (sym here)))
+        (λ other. rw (getD-set-other mem i j v 0 other) old)
+
+    pub word-leaves : Leaves d i v mem (set mem i v)
+    word-leaves = record {
+      ready =
+          again (set mem i v) (length-set mem i v) (still-few 11 (d .places) registered (ready .registered-fit))
+          (still-few 12 (d .places + 1) recycled (ready .recycled-fit))
+          (λ k l. rw (set-view d mem (ready .fits .long-enough) i v inside (space k) l refl) (ready .spaces k l));
+      word = new-word;
+      others = λ j l other. getD-set-other mem i j v 0 other;
+    }
+
+-- ---- two changes
+
+module _ (d : Numbers) (mem : List ℕ) (ready : Ready d mem) where
+  -- The registry, and a word of the head after it.
+  pub registry-and-word-leaves :
+      (f : List ℕ → List ℕ) → length (f (view d registry mem)) ≡ length (view d registry mem) → (i v : ℕ) → i < 16
+      → (i ≡ 11 → v ≤ d .places) → (i ≡ 12 → v ≤ d .places + 1) → Leaves d i v mem (set (onRegion d registry f mem) i v)
+  registry-and-word-leaves f kept i v inside registered recycled =
+      let between = registry-stays d mem ready f kept in
+      let after = word-leaves d (onRegion d registry f mem) (between .ready) i v inside registered recycled in
+      record { ready = after .ready; word = after .word; others = λ j l other. after .others j l other ∙ between .head j l }
+
+  -- Holders, after what left the memory as `mid`.
+  holders-stay :
+      (mid : List ℕ) (g : List ℕ → List ℕ) → Stays d mem mid
+      → ((rg : List ℕ) → 5 * d .places + 1 ≤ length rg → HoldersOnly (d .places) rg (g rg)) → Stays d mem (onRegion d registry g mid)
+  holders-stay mid g st counts =
+      let long : 5 * d .places + 1 ≤ length (view d registry mid) =
+      omega (arith, length-view d registry mid tt (st .ready .fits .long-enough)) in
+      stays-trans d mem mid (onRegion d registry g mid) st
+      (registry-stays d mid (st .ready) g (counts (view d registry mid) long .same-length))
+
+-- ---- the steps of a space
+
+module _ (d : Numbers) (mem : List ℕ) (ready : Ready d mem) (s : ℕ) (valid : s < d .spaces) where
+  abbrev sp : List ℕ
+  sp = spaceOf d s mem
+
+  of-space : SpaceOf (d .most) sp
+  of-space = ready .spaces s valid
+
+  pub lookup-stays : (token : ℕ) → Stays d mem (lookupStep d s token mem)
+  unfolding lookupStep
+  lookup-stays token = space-stays d mem ready s valid (λ sp. counted sp token) (lookup-keeps (d .most) sp of-space token)
+
+  pub next-stays : Stays d mem (nextStep d s mem)
+  unfolding nextStep
+  next-stays = space-stays d mem ready s valid nextGeneration (next-keeps (d .most) sp of-space)
+
+  pub insert-stays : (e : CapabilityEntry) → e .rights .0 < 2 ^ 32 → Stays d mem (insertStep d s e mem)
+  unfolding insertStep holdStep
+  insert-stays e rights = go (eqb (numberOf (insertOut sp e .answer)) 0)
+    where
+      after : List ℕ
+      after = onRegion d (space s) (λ sp. insertOut sp e .words) mem
+
+      came : Stays d mem after
+      came = space-stays d mem ready s valid (λ sp. insertOut sp e .words) (insert-keeps (d .most) sp of-space e rights)
+
+      go : (b : Bool) → Stays d mem (pick b (holdStep d (registeredOf mem) (idOf e) after) after)
+      go true =
+          holders-stay d mem ready after _ came
+          (λ rg long. held-only (d .places) (registeredOf mem) rg (ready .registered-fit) long (idOf e))
+      go false = came
+
+  pub remove-stays : (token : ℕ) → Stays d mem (removeStep d s token mem)
+  unfolding removeStep releaseStep
+  remove-stays token = go (isEntry (lookedUp sp token .got))
+    where
+      after : List ℕ
+      after = onRegion d (space s) (λ sp. removedToken sp token) mem
+
+      gone : Stays d mem after
+      gone = space-stays d mem ready s valid (λ sp. removedToken sp token) (remove-keeps (d .most) sp of-space token)
+
+      go : (b : Bool) → Stays d mem (pick b (releaseStep d (registeredOf mem) (token % 2 ^ 48) after) after)
+      go true =
+          holders-stay d mem ready after _ gone
+          (λ rg long. released-only (d .places) (registeredOf mem) rg (ready .registered-fit) long (token % 2 ^ 48))
+      go false = gone
+
+  pub clear-stays : Stays d mem (clearStep d s mem)
+  unfolding clearStep releaseAllStep
+  clear-stays =
+      holders-stay d mem ready _ _ (space-stays d mem ready s valid cleared (clear-keeps (d .most) sp of-space))
+      (λ rg long. released-all-only (d .places) (registeredOf mem) (ready .registered-fit) (entryIds sp) rg long)
+
+  pub copy-stays : (source : ℕ) → source < d .spaces → Stays d mem (copyStep d s source mem)
+  unfolding copyStep holdAllStep releaseAllStep
+  copy-stays source from =
+      let src : List ℕ = spaceOf d source mem in
+      let came =
+      holders-stay d mem ready _ _
+      (space-stays d mem ready s valid (copiedSpace src) (copy-keeps (d .most) src sp (ready .spaces source from) of-space))
+      (λ rg long. held-all-only (d .places) (registeredOf mem) (ready .registered-fit) (entryIds src) rg long) in
+      holders-stay d mem ready _ _ came
+      (λ rg long. released-all-only (d .places) (registeredOf mem) (ready .registered-fit) (entryIds sp) rg long)
+
+  pub ready-lookup : (token : ℕ) → Ready d (lookupStep d s token mem)
+  ready-lookup token = lookup-stays token .ready
+
+  pub ready-next : Ready d (nextStep d s mem)
+  ready-next = next-stays .ready
+
+  pub ready-insert : (e : CapabilityEntry) → e .rights .0 < 2 ^ 32 → Ready d (insertStep d s e mem)
+  ready-insert e rights = insert-stays e rights .ready
+
+  pub ready-remove : (token : ℕ) → Ready d (removeStep d s token mem)
+  ready-remove token = remove-stays token .ready
+
+  pub ready-clear : Ready d (clearStep d s mem)
+  ready-clear = clear-stays .ready
+
+  pub ready-copy : (source : ℕ) → source < d .spaces → Ready d (copyStep d s source mem)
+  ready-copy source from = copy-stays source from .ready
+
+-- ---- taking an id
+
+-- An id was taken, or none: the words of the head stay but for the next id and the count of recycled ids. Where one was taken, there is
+-- room to recycle it.
+pub record Takes (d : Numbers) (mem : List ℕ) (taken : Taken) (after : List ℕ) : Type 0 where
+  pub ready : Ready d after
+  pub others : (j : ℕ) → j < 16 → j ≢ 5 → j ≢ 12 → getD after j 0 ≡ getD mem j 0
+  pub room : (id : ℕ) → taken ≡ Id id → recycledOf after ≤ d .places
+
+module _ (d : Numbers) (mem : List ℕ) (ready : Ready d mem) where
+  abbrev rg : List ℕ
+  rg = view d registry mem
+
+  abbrev n : ℕ
+  n = registeredOf mem
+
+  abbrev m : ℕ
+  m = recycledOf mem
+
+  long : 5 * d .places + 1 ≤ length rg
+  long = omega (arith, length-view d registry mem tt (ready .fits .long-enough))
+
+  again-taken : 0 < m → Takes d mem (takenId d mem) (takeStep d mem)
+  again-taken some =
+      let leaves =
+      registry-and-word-leaves d mem ready (firstTaken (d .places) m) (length-taken (d .places) m rg some (ready .recycled-fit) long)
+      12 (m - 1) (omega arith) (λ e. omega arith) (λ e. omega (arith, ready .recycled-fit)) in
+      let (steps, takes) = takes-recycled d mem _ _ some refl refl in
+      rw (← steps, ← takes) (record {
+        ready = leaves .ready;
+        others = λ j l not-next not-recycled. leaves .others j l not-recycled;
+        room = λ id is. omega (arith, leaves .word, ready .recycled-fit);
+      })
+
+  next-taken : m ≤ 0 → nextOf mem < 2 ^ 48 → Takes d mem (takenId d mem) (takeStep d mem)
+  next-taken none more =
+      let leaves =
+      word-leaves d mem ready 5 (nextOf mem + 1) (omega arith) (λ e. omega arith) (λ e. omega arith) in
+      let (steps, takes) = takes-next d mem none more in
+      rw (← steps, ← takes) (record {
+        ready = leaves .ready;
+        others = λ j l not-next not-recycled. leaves .others j l not-next;
+        room = λ id is. omega (arith, leaves .others 12 (omega arith) (λ e. omega arith));
+      })
+
+  none-taken : m ≤ 0 → 2 ^ 48 ≤ nextOf mem → Takes d mem (takenId d mem) (takeStep d mem)
+  none-taken none over =
+      let (steps, takes) = takes-none d mem none over in
+      rw (← steps, ← takes) (record { ready = ready; others = λ j l not-next not-recycled. refl; room = λ id is. omega arith })
+
+  pub take-leaves : Takes d mem (takenId d mem) (takeStep d mem)
+  take-leaves =
+      by-cases (decLt 0 m) again-taken
+      (λ none. by-cases (decLt (nextOf mem) (2 ^ 48)) (next-taken (omega arith)) (λ over. none-taken (omega arith) (omega arith)))
+
+  pub ready-take : Ready d (takeStep d mem)
+  ready-take = take-leaves .ready
+
+  pub take-registered : registeredOf (takeStep d mem) ≡ registeredOf mem
+  take-registered = take-leaves .others 11 (omega arith) (λ e. omega arith) (λ e. omega arith)
+
+  pub take-room : (id : ℕ) → takenId d mem ≡ Id id → recycledOf (takeStep d mem) ≤ d .places
+  take-room = take-leaves .room
+
+  -- ---- the steps of the registry
+
+  module _ (id object link : ℕ) (room : registeredOf mem < d .places) where
+    pub register-leaves : Leaves d 11 (registeredOf mem + 1) mem (registerStep d id object link mem)
+    unfolding registerStep
+    register-leaves =
+        registry-and-word-leaves d mem ready (registered (d .places) n id object link)
+        (length-registered (d .places) n id object link rg room long) 11 (n + 1) (omega arith) (λ e. omega arith) (λ e. omega arith)
+
+    pub ready-register : Ready d (registerStep d id object link mem)
+    ready-register = register-leaves .ready
+
+  module _ (p : ℕ) (inside : p < d .places) where
+    pub list-stays : Stays d mem (listStep d p mem)
+    unfolding listStep
+    list-stays = registry-stays d mem ready (listGiven (d .places) p) (length-list-given (d .places) p rg inside long)
+
+    pub ready-list : Ready d (listStep d p mem)
+    ready-list = list-stays .ready
+
+  module _ (k : ℕ) (inside : k < registeredOf mem) where
+    pub unregister-leaves : Leaves d 11 (registeredOf mem - 1) mem (unregisterStep d k mem)
+    unfolding unregisterStep
+    unregister-leaves =
+        registry-and-word-leaves d mem ready (unregistered (d .places) n k)
+        (length-unregistered (d .places) n k rg inside (ready .registered-fit) long) 11 (n - 1) (omega arith)
+        (λ e. omega (arith, ready .registered-fit)) (λ e. omega arith)
+
+    pub ready-unregister : Ready d (unregisterStep d k mem)
+    ready-unregister = unregister-leaves .ready
+
+  module _ (id : ℕ) (room : recycledOf mem ≤ d .places) where
+    pub recycle-leaves : Leaves d 12 (recycledOf mem + 1) mem (recycleStep d id mem)
+    unfolding recycleStep
+    recycle-leaves =
+        registry-and-word-leaves d mem ready (recycledWith (d .places) m id) (length-recycled-with (d .places) m id rg room long)
+        12 (m + 1) (omega arith) (λ e. omega arith) (λ e. omega arith)
+
+    pub ready-recycle : Ready d (recycleStep d id mem)
+    ready-recycle = recycle-leaves .ready
+
+  module _ (p : ℕ) where
+    -- No more are left than there were; p need not be registered.
+    pub collect-leaves : Leaves d 11 (collected (d .places) p (registeredOf mem) (view d registry mem) .left) mem (collectStep d p mem)
+    unfolding collectStep collected
+    collect-leaves =
+        let whole = collects (d .places) p n n rg (omega arith) (ready .registered-fit) long in
+        registry-and-word-leaves d mem ready (λ rg. collected (d .places) p n rg .words) (whole .same-length)
+        11 (collected (d .places) p n rg .left) (omega arith) (λ e. omega (arith, whole .fewer, ready .registered-fit)) (λ e. omega arith)
+
+    pub ready-collect : Ready d (collectStep d p mem)
+    ready-collect = collect-leaves .ready
+
+  module _ (i : ℕ) (inside : i < 16) (not-registered : i ≢ 11) (not-recycled : i ≢ 12) where
+    pub count-leaves : Leaves d i ((getD mem i 0 + 1) % 2 ^ 64) mem (countStep i mem)
+    unfolding countStep
+    count-leaves =
+        word-leaves d mem ready i _ inside (λ e. absurd (not-registered e)) (λ e. absurd (not-recycled e))
+
+    pub ready-count : Ready d (countStep i mem)
+    ready-count = count-leaves .ready
