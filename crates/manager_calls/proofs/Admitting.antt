@@ -1,0 +1,65 @@
+-- What a registered id needs until its entry is in a space: room to recycle it, which steps on the registry and on a space keep; and the two
+-- ways of an admission.
+use mathlib.Core.Bool.{true, false}
+use mathlib.Core.List.{List}
+use mathlib.Core.Path.{_≡_}
+use Prim.Native.Nat.{ℕ, _-_, _<_, _≤_}
+use native.Mathlib.Omega.{arith}
+use borrow.Author.Tests.{eq-eqb, ne-eqb}
+use lib.Dec.{eqb}
+use Rattle.answers.specs.Number.{numberOf}
+use Rattle.answers.specs.declared.Answer.{Answer}
+use Rattle.answers.specs.declared.Answer.the-variants.{Done, OutOfMemory}
+use Rattle.space.specs.Change.{insertOut}
+use Rattle.steps.proofs.laws.ReadyKept.{Stays, Leaves, register-leaves}
+use Rattle.steps.specs.Ready.{Ready}
+use Rattle.steps.specs.Replies.{Left, replied, refuse}
+use Rattle.steps.specs.Steps.{spaceOf, newEntry, insertStep, registerStep, unregisterStep, recycleStep, countStep}
+use Rattle.steps.specs.declared.Reply.{Reply}
+use Rattle.world.specs.Numbers.{registeredOf, recycledOf}
+use Rattle.world.specs.declared.Numbers.{Numbers}
+use Rattle.manager_calls.specs.Delegation.{admitted}
+
+-- ---- room to recycle
+
+module _ (d : Numbers) (mem after : List ℕ) (room : recycledOf mem ≤ d .places) where
+  -- The count of registered ids alone is new, v,
+  pub room-left : (v : ℕ) → Leaves d 11 v mem after → Ready d after × (recycledOf after ≤ d .places)
+  room-left v leaves = (leaves .ready, omega (arith, leaves .others 12 (omega arith) (λ e. omega arith)))
+
+  -- or no count is.
+  pub room-stays : 0 < registeredOf mem → Stays d mem after → Ready d after × (0 < registeredOf after) × (recycledOf after ≤ d .places)
+  room-stays some stays = (stays .ready, omega (arith, stays .head 11 (omega arith)), omega (arith, stays .head 12 (omega arith)))
+
+-- An id that was registered can be admitted: it is there to be taken back.
+pub room-registered :
+    (d : Numbers) (mem : List ℕ) (id object link : ℕ) → Ready d mem → registeredOf mem < d .places → recycledOf mem ≤ d .places
+    → let after = registerStep d id object link mem in Ready d after × (0 < registeredOf after) × (recycledOf after ≤ d .places)
+room-registered d mem id object link ready free room =
+    let leaves = register-leaves d mem ready id object link free in
+    let (still, enough) = room-left d mem (registerStep d id object link mem) room _ leaves in
+    (still, omega (arith, leaves .word), enough)
+
+-- ---- an admission, by the number of the insert's answer
+
+module _ (d : Numbers) (s id token object rights i : ℕ) (mem mid : List ℕ) (inserted : mid ≡ insertStep d s (newEntry token object rights) mem)
+    (answer : Answer) (told : answer ≡ insertOut (spaceOf d s mem) (newEntry token object rights) .answer)
+    (number : ℕ) (numbered : number ≡ numberOf answer)
+  where
+    pub admits :
+        (moved : ℕ) (after : List ℕ) → moved ≡ insertOut (spaceOf d s mem) (newEntry token object rights) .moved → after ≡ countStep i mid
+        → number ≡ 0 → record { reply = replied Done token moved; memory = after } ≡ admitted d s id token object rights i mem
+    unfolding admitted
+    admits moved after moves counted zero =
+        let yes : eqb (numberOf (insertOut (spaceOf d s mem) (newEntry token object rights) .answer)) 0 ≡ true =
+        rw (← told, ← numbered) (eq-eqb number 0 zero) in
+        rw (yes, moves, counted, inserted)
+
+    pub takes-back :
+        (left : Left Reply) → left ≡ refuse (recycleStep d id (unregisterStep d (registeredOf mid - 1) mid)) OutOfMemory → ¬ (number ≡ 0)
+        → left ≡ admitted d s id token object rights i mem
+    unfolding admitted
+    takes-back left is some =
+        let no : eqb (numberOf (insertOut (spaceOf d s mem) (newEntry token object rights) .answer)) 0 ≡ false =
+        rw (← told, ← numbered) (ne-eqb number 0 some) in
+        rw (no, is, inserted)

@@ -1,0 +1,5 @@
+-- What the proofs of `manager_calls` share.
+pub mod Validity
+pub mod Admitting
+pub mod Offering
+pub mod laws

@@ -1,0 +1,22 @@
+-- Laws of the calls of the manager, from their definitions alone.
+pub mod Cases
+pub mod SameRegistered
+pub mod SameIds
+pub mod Ways
+pub mod Sound
+pub mod Admitted
+pub mod Created
+pub mod Roomed
+pub mod Delegated
+pub mod Recording
+pub mod CreateTold
+pub mod DelegateTold
+pub mod Refused
+pub mod Spent
+pub mod Undone
+pub mod Unchanged
+pub mod Standing
+pub mod Ids
+pub mod SharedRights
+pub mod Deleted
+pub mod Meaning

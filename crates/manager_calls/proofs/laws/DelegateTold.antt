@@ -1,0 +1,191 @@
+-- When each answer of delegate is given: 26 exactly on memory that is not sound, 20 exactly on a sound one where either space number is S or
+-- more, and 1, 6, 10, 9, 3, 22, 4 and 0 exactly in their stated cases.
+use mathlib.Core.Bool.{Bool, true, false}
+use mathlib.Core.List.{List}
+use mathlib.Core.Logic.{_↔_, _⊎_, inl, inr, ⊎-elim, by-cases}
+use mathlib.Core.Path.{_≡_, sym, ap, subst, _∙_}
+use Prim.Native.Nat.{ℕ, _^_, _≤_, _<_}
+use native.Mathlib.Decide.{decLt}
+use native.Mathlib.Omega.{arith}
+use lib.Dec.{eqb}
+use Rattle.answers.specs.Number.{numberOf}
+use Rattle.answers.specs.declared.Answer.{Answer}
+use Rattle.answers.specs.declared.Answer.the-variants.{Done, InvalidCapability, CapabilityRevoked, OutOfMemory, PermissionDenied, IdExhausted, QuotaExceeded, BadSpace, RegistryFull, BadWorld}
+use Rattle.space.proofs.laws.Insert.{Accepts}
+use Rattle.steps.specs.Replies.{Left}
+use Rattle.steps.specs.Steps.{spaceOf, takenId, childrenOf}
+use Rattle.steps.specs.declared.Reply.{Reply}
+use Rattle.steps.specs.declared.Taken.the-variants.{Exhausted}
+use Rattle.table.specs.declared.Got.{Got}
+use Rattle.table.specs.declared.Got.the-variants.{Entry, Nothing}
+use Rattle.token.specs.Rights.{holds}
+use Rattle.table.specs.declared.CapabilityEntry.{CapabilityEntry}
+use Rattle.manager_calls.proofs.laws.Roomed.{parentIn}
+use Rattle.world.specs.Numbers.{numbersOf, registeredOf}
+use Rattle.world.specs.Sound.{Sound}
+use Rattle.world.specs.declared.Numbers.{Numbers}
+use Rattle.manager_calls.specs.Calls.{delegateOut}
+use Rattle.manager_calls.specs.Delegation.{current}
+use Rattle.manager_calls.proofs.laws.Cases.{stated}
+use Rattle.manager_calls.proofs.laws.Delegated as delegate
+
+abbrev answerOf : Left Reply → Answer
+answerOf out = out .reply .answer
+
+module _ (mem : List ℕ) (token source target rights : ℕ) where
+  abbrev d : Numbers
+  d = numbersOf mem
+
+  abbrev answer : Answer
+  answer = delegateOut mem token source target rights .reply .answer
+
+  -- How far the call comes.
+  abbrev Entered : Type 0
+  Entered = delegate.Entered mem token source target rights
+
+  abbrev Granted : Type 0
+  Granted = delegate.Granted mem token source target rights
+
+  abbrev Asked : Type 0
+  Asked = delegate.Asked mem token source target rights
+
+  abbrev Took : Type 0
+  Took = delegate.Took mem token source target rights
+
+  abbrev Good : Type 0
+  Good = delegate.Good mem token source target rights
+
+  -- What the source holds under the token.
+  abbrev got : Got
+  got = delegate.got mem token source target rights
+
+  -- The target holds a child already.
+  abbrev held : Granted → Bool
+  held g = delegate.offer mem token source target rights g .held
+
+  -- How many children remain, after the collection where there was one.
+  abbrev remain : Granted → ℕ
+  remain g =
+      childrenOf (numbersOf mem) (delegate.base mem token source target rights g)
+      (parentIn (numbersOf mem) token (delegate.offer mem token source target rights g .memory))
+
+  -- The memory that an id is taken from.
+  abbrev base : Granted → List ℕ
+  base g = delegate.base mem token source target rights g
+
+  abbrev from : Took → List ℕ
+  from t = delegate.from mem token source target rights t
+
+  abbrev parent : Took → ℕ
+  parent t = delegate.parent mem token source target rights t
+
+  abbrev Room : Good → Type 0
+  Room g = registeredOf (from (g .took)) < numbersOf mem .places
+
+  -- The target takes the child's entry.
+  abbrev Takes : Good → Type 0
+  Takes g = Accepts (spaceOf (numbersOf mem) target (from (g .took))) (delegate.childEntry mem token source target rights (g .took))
+
+  -- The stated cases by answer number.
+  abbrev Case : ℕ → Type 0
+  Case n =
+      stated (eqb n 26) (¬ Sound mem)
+      (stated (eqb n 20) (Sound mem × ((numbersOf mem .spaces ≤ source) ⊎ (numbersOf mem .spaces ≤ target)))
+      (stated (eqb n 1) ((Entered × (got ≡ Nothing)) ⊎ ((t : Took) × (registeredOf (from t) ≤ parent t)))
+      (stated (eqb n 6) (Entered × ((e : CapabilityEntry) × ((got ≡ Entry e) × (holds (e .rights .0) (2 ^ 3) ≡ false))))
+      (stated (eqb n 10) ((g : Granted) × ((held g ≡ false) × (1024 ≤ remain g)))
+      (stated (eqb n 9) ((a : Asked) × (takenId (numbersOf mem) (base (a .granted)) ≡ Exhausted))
+      (stated (eqb n 3)
+      ((t : Took) × ((parent t < registeredOf (from t)) × (current (numbersOf mem) (from t) token (parent t) ≡ false)))
+      (stated (eqb n 22) ((g : Good) × (numbersOf mem .places ≤ registeredOf (from (g .took))))
+      (stated (eqb n 4) ((g : Good) × (Room g × (¬ Takes g)))
+      (((g : Granted) × (held g ≡ true)) ⊎ ((g : Good) × (Room g × Takes g)))))))))))
+
+  abbrev Way : Type 0
+  Way = delegate.Way mem token source target rights
+
+  abbrev outOf : Way → Left Reply
+  outOf w = delegate.outOf mem token source target rights w
+
+  answers : (w : Way) → answer ≡ answerOf (outOf w)
+  answers w = ap answerOf (delegate.goes mem token source target rights w)
+
+  in-case : (a : Answer) → answer ≡ a → Case (numberOf a)
+  in-case a e = subst (λ a. Case (numberOf a)) (sym (answers way) ∙ e) (go way)
+    where
+      way : Way
+      way = delegate.way mem token source target rights
+
+      go : (w : Way) → Case (numberOf (answerOf (outOf w)))
+      go (delegate.bad-world bad) = bad
+      go (delegate.bad-source sound far) = (sound, inl far)
+      go (delegate.bad-target sound there far) = (sound, inr far)
+      go (delegate.absent entered none) = inl (entered, none)
+      go (delegate.ungranted entered e found none) = (entered, (e, (found, none)))
+      go (delegate.reused g is) = inl (g, is)
+      go (delegate.crowded g none many) = (g, (none, many))
+      go (delegate.exhausted a is) = (a, is)
+      go (delegate.orphaned t outside) = inr (t, outside)
+      go (delegate.stale t inside is) = (t, (inside, is))
+      go (delegate.full g over) = (g, over)
+      go (delegate.refused g room none) = (g, (room, none))
+      go (delegate.accepted g room takes) = inr (g, (room, takes))
+
+  pub delegate-told-26 : (delegateOut mem token source target rights .reply .answer ≡ BadWorld) ↔ (¬ Sound mem)
+  delegate-told-26 = (in-case BadWorld, λ bad. answers (delegate.bad-world bad))
+
+  pub delegate-told-20 :
+      (delegateOut mem token source target rights .reply .answer ≡ BadSpace)
+      ↔ (Sound mem × ((numbersOf mem .spaces ≤ source) ⊎ (numbersOf mem .spaces ≤ target)))
+  delegate-told-20 = (in-case BadSpace, λ (sound, far). ⊎-elim (λ far. answers (delegate.bad-source sound far)) (second sound) far)
+    where
+      second : Sound mem → numbersOf mem .spaces ≤ target → answer ≡ BadSpace
+      second sound far =
+          by-cases (decLt source (d .spaces))
+          (λ there. answers (delegate.bad-target sound there far))
+          (λ none. answers (delegate.bad-source sound (omega arith)))
+
+  pub delegate-told-1 :
+      (delegateOut mem token source target rights .reply .answer ≡ InvalidCapability)
+      ↔ ((Entered × (got ≡ Nothing)) ⊎ ((t : Took) × (registeredOf (from t) ≤ parent t)))
+  delegate-told-1 = (
+    in-case InvalidCapability,
+    ⊎-elim (λ (entered, none). answers (delegate.absent entered none)) (λ (t, outside). answers (delegate.orphaned t outside)),
+  )
+
+  pub delegate-told-6 :
+      (delegateOut mem token source target rights .reply .answer ≡ PermissionDenied)
+      ↔ (Entered × ((e : CapabilityEntry) × ((got ≡ Entry e) × (holds (e .rights .0) (2 ^ 3) ≡ false))))
+  delegate-told-6 = (in-case PermissionDenied, λ (entered, (e, (found, none))). answers (delegate.ungranted entered e found none))
+
+  pub delegate-told-10 :
+      (delegateOut mem token source target rights .reply .answer ≡ QuotaExceeded)
+      ↔ ((g : Granted) × ((held g ≡ false) × (1024 ≤ remain g)))
+  delegate-told-10 = (in-case QuotaExceeded, λ (g, (none, many)). answers (delegate.crowded g none many))
+
+  pub delegate-told-9 :
+      (delegateOut mem token source target rights .reply .answer ≡ IdExhausted)
+      ↔ ((a : Asked) × (takenId (numbersOf mem) (base (a .granted)) ≡ Exhausted))
+  delegate-told-9 = (in-case IdExhausted, λ (a, is). answers (delegate.exhausted a is))
+
+  pub delegate-told-3 :
+      (delegateOut mem token source target rights .reply .answer ≡ CapabilityRevoked)
+      ↔ ((t : Took) × ((parent t < registeredOf (from t)) × (current (numbersOf mem) (from t) token (parent t) ≡ false)))
+  delegate-told-3 = (in-case CapabilityRevoked, λ (t, (inside, is)). answers (delegate.stale t inside is))
+
+  pub delegate-told-22 :
+      (delegateOut mem token source target rights .reply .answer ≡ RegistryFull)
+      ↔ ((g : Good) × (numbersOf mem .places ≤ registeredOf (from (g .took))))
+  delegate-told-22 = (in-case RegistryFull, λ (g, over). answers (delegate.full g over))
+
+  pub delegate-told-4 :
+      (delegateOut mem token source target rights .reply .answer ≡ OutOfMemory) ↔ ((g : Good) × (Room g × (¬ Takes g)))
+  delegate-told-4 = (in-case OutOfMemory, λ (g, (room, none)). answers (delegate.refused g room none))
+
+  pub delegate-told-0 :
+      (delegateOut mem token source target rights .reply .answer ≡ Done)
+      ↔ (((g : Granted) × (held g ≡ true)) ⊎ ((g : Good) × (Room g × Takes g)))
+  delegate-told-0 = (
+    in-case Done,
+    ⊎-elim (λ (g, is). answers (delegate.reused g is)) (λ (g, (room, takes)). answers (delegate.accepted g room takes)),
+  )

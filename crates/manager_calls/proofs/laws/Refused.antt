@@ -1,0 +1,176 @@
+-- When each answer of delete, check and the calls that read is given: 26 exactly on memory that is not sound, 20 exactly on a sound one for
+-- a space number of S or more, every other answer exactly in its stated case. CreateTold.antt and DelegateTold.antt say it of the others.
+use mathlib.Core.Bool.{Bool, true, false, not, true≢false}
+use mathlib.Core.List.{List}
+use mathlib.Core.Logic.{_↔_, _⊎_, inl, inr, ⊎-elim}
+use mathlib.Core.Path.{_≡_, refl, sym, ap, _∙_}
+use Prim.Native.Nat.{ℕ, _^_, _≤_, _<_}
+use native.Mathlib.Omega.{arith}
+use borrow.Author.Tests.{leb-true, leb-false, not-true, not-false}
+use lib.Dec.{leb, ltb}
+use lib.ListN.{length}
+use Rattle.answers.specs.Number.{numberOf}
+use Rattle.answers.specs.declared.Answer.{Answer}
+use Rattle.answers.specs.declared.Answer.the-variants.{Done, InsufficientRights, CapabilityRevoked, NotFound, BadField, RecycleFull, BadWorld}
+use Rattle.space.specs.Lookup.{lookedUp}
+use Rattle.steps.specs.Replies.{Left, Listed}
+use Rattle.steps.specs.Steps.{spaceOf, lookupStep, placeIn, childrenOf}
+use Rattle.steps.specs.declared.Reply.{Reply}
+use Rattle.steps.proofs.laws.Entered.{world-by-cases}
+use Rattle.steps.proofs.laws.Told.{Told, Inner, told, world-told, inner, inner-0}
+use Rattle.token.specs.Token.{idOf}
+use Rattle.world.specs.Numbers.{numbersOf, registeredOf, recycledOf}
+use Rattle.world.specs.Sound.{Sound}
+use Rattle.world.specs.declared.Numbers.{Numbers}
+use Rattle.manager_calls.specs.Calls.{deleteOut, grants, validIn, checkOut, isValidOut, statsOut, childrenOut, treeStatsOut, censusOut}
+use Rattle.manager_calls.specs.declared.StatsReply.{StatsReply}
+use Rattle.manager_calls.specs.declared.TreeReply.{TreeReply}
+use Rattle.manager_calls.proofs.laws.Cases.{when-by-cases}
+use Rattle.manager_calls.proofs.laws.Ways.{delete-by-cases, check-by-cases}
+
+abbrev answerOf : Left Reply → Answer
+answerOf out = out .reply .answer
+
+-- ---- 26 and 20: no answer of a call's own is either
+
+abbrev Fine : Left Reply → Type 0
+Fine out = Inner (answerOf out)
+
+module _ (mem : List ℕ) where
+  abbrev d : Numbers
+  d = numbersOf mem
+
+  pub check-entered : (token required s : ℕ) → Told mem s (checkOut mem token required s .reply .answer)
+  unfolding checkOut
+  check-entered token required s =
+      told answerOf _ mem _ (λ a. refl)
+      (when-by-cases Fine _ _ (not (grants required (lookedUp (spaceOf d s mem) token .got))) (λ without. inner InsufficientRights refl refl)
+      (λ granted.
+      when-by-cases Fine _ _ (not (validIn d (lookupStep d s token mem) token)) (λ stale. inner CapabilityRevoked refl refl) (λ good. inner-0)))
+      s
+
+  pub census-entered : (s : ℕ) → Told mem s (censusOut mem s .answer)
+  unfolding censusOut
+  census-entered s = told (λ (r : Reply). r .answer) _ mem _ (λ a. refl) inner-0 s
+
+  -- A call without a space is never answered 20.
+  pub delete-entered : (token : ℕ) → (deleteOut mem token .reply .answer ≡ BadWorld) ↔ (¬ Sound mem)
+  unfolding deleteOut
+  delete-entered token =
+      world-told answerOf _ mem _ (λ a. refl)
+      (when-by-cases Fine _ _ (not (ltb (placeIn d mem (idOf token)) (registeredOf mem))) (λ outside. inner NotFound refl refl)
+      (λ inside. when-by-cases Fine _ _ (ltb (d .places) (recycledOf mem)) (λ full. inner RecycleFull refl refl) (λ room. inner-0)))
+
+  pub is-valid-entered : (token : ℕ) → (isValidOut mem token .answer ≡ BadWorld) ↔ (¬ Sound mem)
+  unfolding isValidOut
+  is-valid-entered token = world-told (λ (r : Reply). r .answer) _ mem _ (λ a. refl) inner-0
+
+  pub stats-entered : (statsOut mem .answer ≡ BadWorld) ↔ (¬ Sound mem)
+  unfolding statsOut
+  stats-entered = world-told (λ (r : StatsReply). r .answer) _ mem _ (λ a. refl) inner-0
+
+  pub tree-stats-entered : (treeStatsOut mem .answer ≡ BadWorld) ↔ (¬ Sound mem)
+  unfolding treeStatsOut
+  tree-stats-entered = world-told (λ (r : TreeReply). r .answer) _ mem _ (λ a. refl) inner-0
+
+  pub children-entered : (id : ℕ) (area : List ℕ) → (childrenOut mem id area .reply .answer ≡ BadWorld) ↔ (¬ Sound mem)
+  unfolding childrenOut
+  children-entered id area =
+      let fine : Listed → Type 0 = λ (l : Listed). Inner (l .reply .answer) in
+      world-told (λ (l : Listed). l .reply .answer) _ mem _ (λ a. refl)
+      (when-by-cases fine _ _ (leb (2 ^ 48) id) (λ over. inner BadField refl refl)
+      (λ fits.
+      when-by-cases fine _ _ (not (leb (childrenOf d mem (placeIn d mem id)) (length area))) (λ short. inner BadField refl refl)
+      (λ long. inner-0)))
+
+-- ---- delete, check, the list of children
+
+module _ (mem : List ℕ) (sound : Sound mem) where
+  abbrev n : ℕ
+  n = registeredOf mem
+
+  module _ (token : ℕ) where
+    abbrev k : ℕ
+    k = placeIn (numbersOf mem) mem (idOf token)
+
+    pub delete-told-8 :
+        (deleteOut mem token .reply .answer ≡ NotFound) ↔ (registeredOf mem ≤ placeIn (numbersOf mem) mem (idOf token))
+    delete-told-8 =
+        delete-by-cases mem token (λ out. (answerOf out ≡ NotFound) ↔ (n ≤ k))
+        (λ bad. absurd (bad sound))
+        (λ sound outside. (λ e. outside, λ l. refl))
+        (λ sound inside full. (λ e. absurd (omega (arith, ap numberOf e)), λ l. absurd (omega arith)))
+        (λ sound inside room. (λ e. absurd (omega (arith, ap numberOf e)), λ l. absurd (omega arith)))
+
+    pub delete-told-23 :
+        (deleteOut mem token .reply .answer ≡ RecycleFull)
+        ↔ ((placeIn (numbersOf mem) mem (idOf token) < registeredOf mem) × (numbersOf mem .places < recycledOf mem))
+    delete-told-23 =
+        delete-by-cases mem token (λ out. (answerOf out ≡ RecycleFull) ↔ ((k < n) × (numbersOf mem .places < recycledOf mem)))
+        (λ bad. absurd (bad sound))
+        (λ sound outside. (λ e. absurd (omega (arith, ap numberOf e)), λ (l, u). absurd (omega arith)))
+        (λ sound inside full. (λ e. (inside, full), λ (l, u). refl))
+        (λ sound inside room. (λ e. absurd (omega (arith, ap numberOf e)), λ (l, u). absurd (omega arith)))
+
+    pub delete-told-0 :
+        (deleteOut mem token .reply .answer ≡ Done)
+        ↔ ((placeIn (numbersOf mem) mem (idOf token) < registeredOf mem) × (recycledOf mem ≤ numbersOf mem .places))
+    delete-told-0 =
+        delete-by-cases mem token (λ out. (answerOf out ≡ Done) ↔ ((k < n) × (recycledOf mem ≤ numbersOf mem .places)))
+        (λ bad. absurd (bad sound))
+        (λ sound outside. (λ e. absurd (omega (arith, ap numberOf e)), λ (l, u). absurd (omega arith)))
+        (λ sound inside full. (λ e. absurd (omega (arith, ap numberOf e)), λ (l, u). absurd (omega arith)))
+        (λ sound inside room. (λ e. (inside, room), λ (l, u). refl))
+
+  module _ (token required s : ℕ) (there : s < numbersOf mem .spaces) where
+    abbrev granted : Bool
+    granted = grants required (lookedUp (spaceOf (numbersOf mem) s mem) token .got)
+
+    abbrev good : Bool
+    good = validIn (numbersOf mem) mem token
+
+    pub check-told-2 :
+        (checkOut mem token required s .reply .answer ≡ InsufficientRights)
+        ↔ (grants required (lookedUp (spaceOf (numbersOf mem) s mem) token .got) ≡ false)
+    check-told-2 =
+        check-by-cases mem token required s (λ out. (answerOf out ≡ InsufficientRights) ↔ (granted ≡ false))
+        (λ bad. absurd (bad sound))
+        (λ sound far. absurd (omega arith))
+        (λ sound there without. (λ e. without, λ w. refl))
+        (λ sound there with′ stale. (λ e. absurd (omega (arith, ap numberOf e)), λ w. absurd (true≢false (sym with′ ∙ w))))
+        (λ sound there with′ is. (λ e. absurd (omega (arith, ap numberOf e)), λ w. absurd (true≢false (sym with′ ∙ w))))
+
+    pub check-told-3 :
+        (checkOut mem token required s .reply .answer ≡ CapabilityRevoked)
+        ↔ ((grants required (lookedUp (spaceOf (numbersOf mem) s mem) token .got) ≡ true) × (validIn (numbersOf mem) mem token ≡ false))
+    check-told-3 =
+        check-by-cases mem token required s (λ out. (answerOf out ≡ CapabilityRevoked) ↔ ((granted ≡ true) × (good ≡ false)))
+        (λ bad. absurd (bad sound))
+        (λ sound far. absurd (omega arith))
+        (λ sound there without. (λ e. absurd (omega (arith, ap numberOf e)), λ (w, i). absurd (true≢false (sym w ∙ without))))
+        (λ sound there with′ stale. (λ e. (with′, stale), λ any. refl))
+        (λ sound there with′ is. (λ e. absurd (omega (arith, ap numberOf e)), λ (w, i). absurd (true≢false (sym is ∙ i))))
+
+  pub children-told-21 :
+      (id : ℕ) (area : List ℕ)
+      → (childrenOut mem id area .reply .answer ≡ BadField)
+      ↔ ((2 ^ 48 ≤ id) ⊎ (length area < childrenOf (numbersOf mem) mem (placeIn (numbersOf mem) mem id)))
+  unfolding childrenOut
+  children-told-21 id area =
+      world-by-cases Said _ mem _ (λ bad. absurd (bad sound))
+      (λ sound.
+      when-by-cases Said _ _ (leb (2 ^ 48) id)
+      (λ over. (λ e. inl (leb-true (2 ^ 48) id over), λ any. refl))
+      (λ fits.
+      when-by-cases Said _ _ (not (leb count (length area)))
+      (λ short. (λ e. inr (leb-false count (length area) (not-true _ short)), λ any. refl))
+      (λ long. (
+        λ e. absurd (omega (arith, ap numberOf e)),
+        λ any. absurd (⊎-elim (λ l. omega (arith, leb-false (2 ^ 48) id fits)) (λ l. omega (arith, leb-true count (length area) (not-false _ long))) any),
+      ))))
+    where
+      count : ℕ
+      count = childrenOf (numbersOf mem) mem (placeIn (numbersOf mem) mem id)
+
+      Said : Listed → Type 0
+      Said l = (l .reply .answer ≡ BadField) ↔ ((2 ^ 48 ≤ id) ⊎ (length area < count))

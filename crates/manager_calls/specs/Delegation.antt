@@ -1,0 +1,131 @@
+-- Document 01, "Registry and delegation": what create and delegate do once their arguments are good, step by step. d are the numbers of
+-- a sound memory. The value is the token, the count the entries that the insert moved: 0 where a child is returned or the call refused.
+use mathlib.Core.Bool.{Bool, true, false, not}
+use mathlib.Core.List.{List}
+use Prim.Native.Nat.{ℕ, zero, suc, _+_, _-_, _%_, _^_}
+use lib.Dec.{eqb, ltb}
+use Rattle.answers.specs.Number.{numberOf}
+use Rattle.answers.specs.declared.Answer.the-variants.{Done, InvalidCapability, CapabilityRevoked, OutOfMemory, PermissionDenied, IdExhausted, QuotaExceeded, RegistryFull}
+use Rattle.base.specs.Choose.{pick, both, when}
+use Rattle.registry.specs.Words.{revoked, childOf}
+use Rattle.space.specs.Change.{insertOut}
+use Rattle.space.specs.Lookup.{lookedUp}
+use Rattle.steps.specs.Replies.{Left, replied, done, refuse}
+use Rattle.steps.specs.Steps.{spaceOf, lookupStep, newEntry, insertStep, takenId, takeStep, placeIn, objects, registerStep, listStep, unregisterStep, recycleStep, collectStep, childrenOf, countStep}
+use Rattle.steps.specs.declared.Reply.{Reply}
+use Rattle.steps.specs.declared.Taken.{Taken}
+use Rattle.steps.specs.declared.Taken.the-variants.{Id, Exhausted}
+use Rattle.table.specs.declared.Got.{Got}
+use Rattle.table.specs.declared.Got.the-variants.{Entry, Nothing}
+use Rattle.token.specs.Rights.{holds, common, toFlags}
+use Rattle.token.specs.Token.{packed, idOf, generationOf, typeOf}
+use Rattle.world.specs.Numbers.{registeredOf}
+use Rattle.world.specs.Sound.{ids, states, links}
+use Rattle.world.specs.declared.Numbers.{Numbers}
+
+-- The token of an unrevoked id, whose generation is 0: with the type, and the flags of the rights. Every id of a sound memory has at most
+-- 48 bits.
+abbrev pub tokenOf : ℕ → ℕ → ℕ → ℕ
+tokenOf id cap-type rights = packed (id % 2 ^ 48) 0 cap-type (toFlags rights)
+
+-- ---- register, insert
+
+-- The entry of the id registered last goes into space s; word i of the head counts it. Where the space refuses it, the id leaves the
+-- registry and its parent's list, and is recycled: 4.
+unfoldable pub admitted : Numbers → ℕ → ℕ → ℕ → ℕ → ℕ → ℕ → List ℕ → Left Reply
+admitted d s id token object rights i mem =
+    let o = insertOut (spaceOf d s mem) (newEntry token object rights) in
+    let after = insertStep d s (newEntry token object rights) mem in
+    pick (eqb (numberOf (o .answer)) 0)
+    (record { reply = replied Done token (o .moved); memory = countStep i after })
+    (refuse (recycleStep d id (unregisterStep d (registeredOf after - 1) after)) OutOfMemory)
+
+-- ---- create, once an id was asked for: 9 where none is left, 22 where R ids are registered already
+
+abbrev pub created : Numbers → ℕ → ℕ → ℕ → ℕ → List ℕ → Taken → Left Reply
+created d s object cap-type rights mem Exhausted = refuse mem IdExhausted
+created d s object cap-type rights mem (Id id) =
+    when (not (ltb (registeredOf mem) (d .places))) (refuse (recycleStep d id mem) RegistryFull)
+    (admitted d s id (tokenOf id cap-type rights) object rights 7 (registerStep d id object 0 mem))
+
+-- ---- delegate: the children that there are already
+
+-- Held with exactly these rights.
+abbrev pub heldWith : ℕ → Got → Bool
+heldWith rights (Entry e) = eqb (e .rights .0) rights
+heldWith rights Nothing = false
+
+-- Place k is an unrevoked child of place p.
+abbrev pub openChild : Numbers → List ℕ → ℕ → ℕ → Bool
+openChild d mem p k = both (childOf (links d mem) p k) (eqb (revoked (states d mem k)) 0)
+
+-- The token of a child that the target holds, if there is one, and the memory with the lookups counted.
+pub record Offered : Type 0 where
+  pub held : Bool
+  pub token : ℕ
+  pub memory : List ℕ
+
+-- Each unrevoked child of place p in list order, among the m places from k on, is looked up in the target, counted as any lookup; the
+-- first held there with exactly the token made of its id, its generation, the given type and the derived flags, and with those rights, is
+-- the one.
+unfoldable pub offeredFrom : Numbers → ℕ → ℕ → ℕ → ℕ → ℕ → ℕ → List ℕ → Offered
+offeredFrom d target p cap-type rights k zero mem = record { held = false; token = 0; memory = mem }
+offeredFrom d target p cap-type rights k (suc m) mem =
+    let token = tokenOf (ids d mem k) cap-type rights in
+    let got = lookedUp (spaceOf d target mem) token .got in
+    let after = lookupStep d target token mem in
+    pick (openChild d mem p k)
+    (pick (heldWith rights got)
+    (record { held = true; token = token; memory = after })
+    (offeredFrom d target p cap-type rights (k + 1) m after))
+    (offeredFrom d target p cap-type rights (k + 1) m mem)
+
+abbrev pub offered : Numbers → ℕ → ℕ → ℕ → List ℕ → Offered
+offered d target token rights mem =
+    offeredFrom d target (placeIn d mem (idOf token)) (typeOf token) rights 0 (registeredOf mem) mem
+
+-- ---- delegate: a new child
+
+-- Place k is unrevoked and of the token's generation.
+abbrev pub current : Numbers → List ℕ → ℕ → ℕ → Bool
+current d mem token k = both (eqb (revoked (states d mem k)) 0) (eqb (generationOf token) (revoked (states d mem k)))
+
+-- The child is registered with its parent's object, recorded in the list that the parent has from now on, inserted.
+abbrev pub derivedWith : Numbers → ℕ → ℕ → ℕ → ℕ → ℕ → List ℕ → Left Reply
+derivedWith d target token rights id p mem =
+    let object = objects d mem p in
+    admitted d target id (tokenOf id (typeOf token) rights) object rights 8 (registerStep d id object (suc p) (listStep d p mem))
+
+-- The id was taken: parent unregistered gives 1, revoked or other generation gives 3; then 22.
+abbrev pub derived : Numbers → ℕ → ℕ → ℕ → List ℕ → Taken → Left Reply
+derived d target token rights mem Exhausted = refuse mem IdExhausted
+derived d target token rights mem (Id id) =
+    let p = placeIn d mem (idOf token) in
+    when (not (ltb p (registeredOf mem))) (refuse (recycleStep d id mem) InvalidCapability)
+    (when (not (current d mem token p)) (refuse (recycleStep d id mem) CapabilityRevoked)
+    (when (not (ltb (registeredOf mem) (d .places))) (refuse (recycleStep d id mem) RegistryFull)
+    (derivedWith d target token rights id p mem)))
+
+unfoldable pub withId : Numbers → ℕ → ℕ → ℕ → List ℕ → Left Reply
+withId d target token rights mem = derived d target token rights (takeStep d mem) (takenId d mem)
+
+-- With 1,024 children the collection, then 10 exactly if 1,024 remain.
+unfoldable pub withRoom : Numbers → ℕ → ℕ → ℕ → List ℕ → Left Reply
+withRoom d target token rights mem =
+    let p = placeIn d mem (idOf token) in
+    let after = collectStep d p mem in
+    pick (ltb (childrenOf d mem p) 1024) (withId d target token rights mem)
+    (when (not (ltb (childrenOf d after p) 1024)) (refuse after QuotaExceeded) (withId d target token rights after))
+
+-- A child that the target holds already is returned, not counted as delegated.
+abbrev pub offering : Numbers → ℕ → ℕ → ℕ → Offered → Left Reply
+offering d target token rights o =
+    pick (o .held) (record { reply = done (o .token); memory = o .memory }) (withRoom d target token rights (o .memory))
+
+-- GRANT (6); derived rights are both sets' common bits.
+abbrev pub granting : Numbers → ℕ → ℕ → ℕ → List ℕ → Got → Left Reply
+granting d target token rights mem Nothing = refuse mem InvalidCapability
+granting d target token rights mem (Entry e) =
+    let both-sets = common (e .rights .0) rights in
+    when (not (holds (e .rights .0) (2 ^ 3))) (refuse mem PermissionDenied)
+    (offering d target token both-sets (offered d target token both-sets mem))

@@ -1,0 +1,48 @@
+// Delete: a capability leaves the registry, and its id may be taken again.
+ghost use mathlib.Core.Path.{_≡_};
+ghost use Prim.Native.Nat.{_<_, _≤_};
+ghost use Rattle.steps.specs.Ready.{Ready};
+ghost use Rattle.steps.specs.Steps.{unregisterStep, recycleStep, countStep};
+ghost use Rattle.world.specs.Numbers.{registeredOf, recycledOf};
+ghost use Rattle.manager_calls.specs.Calls.{deleteOut};
+use answers::Answer;
+use steps::Entered;
+use steps::Reply;
+use steps::enter::enter_world;
+use steps::registered::count;
+use steps::registered::place_of;
+use steps::registered::recycle;
+use steps::registered::unregister;
+use steps::replies::done;
+use steps::replies::refusal;
+use token::CapabilityToken;
+use world::Numbers;
+
+// The id of place k leaves and is recycled; the deletion is counted.
+fn delete_at(mem: &mut [u64], d: Numbers, k: usize, id: u64)
+    requires { ⌜ Ready d (now mem) × (k < registeredOf (now mem)) × (recycledOf (now mem) ≤ d .places) ⌝ }
+    ensures { λ _. ⌜ now (mem .exit) ≡ countStep 10 (recycleStep d id (unregisterStep d k (now (mem .entry)))) ⌝ }
+{
+    unregister(mem, d, k);
+    recycle(mem, d, id);
+    count(mem, 10);
+}
+
+pub fn delete(mem: &mut [u64], token: CapabilityToken) -> Reply
+    ensures { λ r. ⌜ record { reply = r; memory = now (mem .exit) } ≡ deleteOut (now (mem .entry)) (token .0) ⌝ }
+{
+    match enter_world(mem) {
+        Entered::Refused(answer) => refusal(answer),
+        Entered::Good(d) => {
+            let k = place_of(mem, d, token.id());
+            if mem[11] as usize <= k {
+                return refusal(Answer::NotFound);
+            }
+            if d.places < mem[12] as usize {
+                return refusal(Answer::RecycleFull);
+            }
+            delete_at(mem, d, k, token.id());
+            done(0)
+        }
+    }
+}
