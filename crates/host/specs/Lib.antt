@@ -1,3 +1,5 @@
 -- What the contracts of `host` cite beside those of the crates that it exports.
 pub mod Answered
 pub mod Spaces
+pub mod Replies
+pub mod Manager

@@ -1,6 +1,8 @@
 // What a program in C or Rust calls: the library's functions by plain names, numbers in, numbers out.
 // Each is one call, and its contract cites the same definition as the function's own.
 mod flags;
+mod manager;
+mod replies;
 mod rights;
 mod spaces;
 mod tokens;

@@ -2,20 +2,14 @@
 // Each is the call of the same name in `space_calls`, with its answer as a number.
 ghost use mathlib.Core.Path.{_≡_};
 ghost use Rattle.space_calls.specs.Calls.{usedOut, quotaOut, capacityOut, generationOut, statsOut, lookupOut, lookupEntryOut, checkRightsOut, getEntryOut, nthEntryOut, insertCallOut, removeOut, incrementOut, clearOut, revokeAllOut, copyOut, allocOut, createOut, revokeOut};
-ghost use Rattle.host.specs.Spaces.{spaceAnswer, entryAnswer, statsAnswer, told};
+ghost use Rattle.host.specs.Replies.{callAnswer, told};
+ghost use Rattle.host.specs.Spaces.{entryAnswer, statsAnswer};
+use super::replies::CallAnswer;
+use super::replies::answered;
 use space_calls::EntryReply;
-use space_calls::Reply;
 use space_calls::StatsReply;
 use token::CapabilityToken;
 use token::Rights;
-
-// The answer's number, its value, and the slots that the call's search visited or the entries that it moved.
-#[repr(C)]
-pub struct SpaceAnswer {
-    pub answer: u8,
-    pub value: u64,
-    pub count: u64,
-}
 
 // The answer's number, an entry, and the slots that the search for it visited.
 #[repr(C)]
@@ -35,17 +29,6 @@ pub struct StatsAnswer {
     pub hits: u64,
     pub misses: u64,
     pub total_caps: u64,
-}
-
-fn answered(reply: Reply) -> SpaceAnswer
-    ensures { λ r. ⌜ r ≡ spaceAnswer reply ⌝ }
-{
-    let answer = reply.answer;
-    SpaceAnswer {
-        answer: answer.number(),
-        value: reply.value,
-        count: reply.count as u64,
-    }
 }
 
 fn entry_answered(reply: EntryReply) -> EntryAnswer
@@ -79,29 +62,29 @@ fn stats_answered(reply: StatsReply) -> StatsAnswer
 // ---- what a space says of itself
 
 #[no_mangle]
-pub extern "C" fn stonespry_space_used(mem: &[u64], s: usize) -> SpaceAnswer
-    ensures { λ r. ⌜ r ≡ spaceAnswer (usedOut (now (mem .entry)) s) ⌝ }
+pub extern "C" fn stonespry_space_used(mem: &[u64], s: usize) -> CallAnswer
+    ensures { λ r. ⌜ r ≡ callAnswer (usedOut (now (mem .entry)) s) ⌝ }
 {
     answered(space_calls::used(mem, s))
 }
 
 #[no_mangle]
-pub extern "C" fn stonespry_space_quota(mem: &[u64], s: usize) -> SpaceAnswer
-    ensures { λ r. ⌜ r ≡ spaceAnswer (quotaOut (now (mem .entry)) s) ⌝ }
+pub extern "C" fn stonespry_space_quota(mem: &[u64], s: usize) -> CallAnswer
+    ensures { λ r. ⌜ r ≡ callAnswer (quotaOut (now (mem .entry)) s) ⌝ }
 {
     answered(space_calls::quota(mem, s))
 }
 
 #[no_mangle]
-pub extern "C" fn stonespry_space_table_capacity(mem: &[u64], s: usize) -> SpaceAnswer
-    ensures { λ r. ⌜ r ≡ spaceAnswer (capacityOut (now (mem .entry)) s) ⌝ }
+pub extern "C" fn stonespry_space_table_capacity(mem: &[u64], s: usize) -> CallAnswer
+    ensures { λ r. ⌜ r ≡ callAnswer (capacityOut (now (mem .entry)) s) ⌝ }
 {
     answered(space_calls::table_capacity(mem, s))
 }
 
 #[no_mangle]
-pub extern "C" fn stonespry_space_generation(mem: &[u64], s: usize) -> SpaceAnswer
-    ensures { λ r. ⌜ r ≡ spaceAnswer (generationOut (now (mem .entry)) s) ⌝ }
+pub extern "C" fn stonespry_space_generation(mem: &[u64], s: usize) -> CallAnswer
+    ensures { λ r. ⌜ r ≡ callAnswer (generationOut (now (mem .entry)) s) ⌝ }
 {
     answered(space_calls::generation(mem, s))
 }
@@ -116,8 +99,8 @@ pub extern "C" fn stonespry_space_stats(mem: &[u64], s: usize) -> StatsAnswer
 // ---- finding entries
 
 #[no_mangle]
-pub extern "C" fn stonespry_space_lookup(mem: &mut [u64], s: usize, token: u64) -> SpaceAnswer
-    ensures { λ r. ⌜ record { reply = r; memory = now (mem .exit) } ≡ told spaceAnswer (lookupOut (now (mem .entry)) s token) ⌝ }
+pub extern "C" fn stonespry_space_lookup(mem: &mut [u64], s: usize, token: u64) -> CallAnswer
+    ensures { λ r. ⌜ record { reply = r; memory = now (mem .exit) } ≡ told callAnswer (lookupOut (now (mem .entry)) s token) ⌝ }
 {
     answered(space_calls::lookup(mem, s, CapabilityToken(token)))
 }
@@ -135,8 +118,8 @@ pub extern "C" fn stonespry_space_check_rights(
     s: usize,
     token: u64,
     required: u32,
-) -> SpaceAnswer
-    ensures { λ r. ⌜ record { reply = r; memory = now (mem .exit) } ≡ told spaceAnswer (checkRightsOut (now (mem .entry)) s token required) ⌝ }
+) -> CallAnswer
+    ensures { λ r. ⌜ record { reply = r; memory = now (mem .exit) } ≡ told callAnswer (checkRightsOut (now (mem .entry)) s token required) ⌝ }
 {
     answered(space_calls::check_rights(mem, s, CapabilityToken(token), Rights(required)))
 }
@@ -164,43 +147,43 @@ pub extern "C" fn stonespry_space_insert(
     token: u64,
     object: u64,
     rights: u32,
-) -> SpaceAnswer
-    ensures { λ r. ⌜ record { reply = r; memory = now (mem .exit) } ≡ told spaceAnswer (insertCallOut (now (mem .entry)) s token object rights) ⌝ }
+) -> CallAnswer
+    ensures { λ r. ⌜ record { reply = r; memory = now (mem .exit) } ≡ told callAnswer (insertCallOut (now (mem .entry)) s token object rights) ⌝ }
 {
     answered(space_calls::insert(mem, s, CapabilityToken(token), object, Rights(rights)))
 }
 
 #[no_mangle]
-pub extern "C" fn stonespry_space_remove(mem: &mut [u64], s: usize, token: u64) -> SpaceAnswer
-    ensures { λ r. ⌜ record { reply = r; memory = now (mem .exit) } ≡ told spaceAnswer (removeOut (now (mem .entry)) s token) ⌝ }
+pub extern "C" fn stonespry_space_remove(mem: &mut [u64], s: usize, token: u64) -> CallAnswer
+    ensures { λ r. ⌜ record { reply = r; memory = now (mem .exit) } ≡ told callAnswer (removeOut (now (mem .entry)) s token) ⌝ }
 {
     answered(space_calls::remove(mem, s, CapabilityToken(token)))
 }
 
 #[no_mangle]
-pub extern "C" fn stonespry_space_increment_generation(mem: &mut [u64], s: usize) -> SpaceAnswer
-    ensures { λ r. ⌜ record { reply = r; memory = now (mem .exit) } ≡ told spaceAnswer (incrementOut (now (mem .entry)) s) ⌝ }
+pub extern "C" fn stonespry_space_increment_generation(mem: &mut [u64], s: usize) -> CallAnswer
+    ensures { λ r. ⌜ record { reply = r; memory = now (mem .exit) } ≡ told callAnswer (incrementOut (now (mem .entry)) s) ⌝ }
 {
     answered(space_calls::increment_generation(mem, s))
 }
 
 #[no_mangle]
-pub extern "C" fn stonespry_space_clear(mem: &mut [u64], s: usize) -> SpaceAnswer
-    ensures { λ r. ⌜ record { reply = r; memory = now (mem .exit) } ≡ told spaceAnswer (clearOut (now (mem .entry)) s) ⌝ }
+pub extern "C" fn stonespry_space_clear(mem: &mut [u64], s: usize) -> CallAnswer
+    ensures { λ r. ⌜ record { reply = r; memory = now (mem .exit) } ≡ told callAnswer (clearOut (now (mem .entry)) s) ⌝ }
 {
     answered(space_calls::clear(mem, s))
 }
 
 #[no_mangle]
-pub extern "C" fn stonespry_space_revoke_all(mem: &mut [u64], s: usize) -> SpaceAnswer
-    ensures { λ r. ⌜ record { reply = r; memory = now (mem .exit) } ≡ told spaceAnswer (revokeAllOut (now (mem .entry)) s) ⌝ }
+pub extern "C" fn stonespry_space_revoke_all(mem: &mut [u64], s: usize) -> CallAnswer
+    ensures { λ r. ⌜ record { reply = r; memory = now (mem .exit) } ≡ told callAnswer (revokeAllOut (now (mem .entry)) s) ⌝ }
 {
     answered(space_calls::revoke_all(mem, s))
 }
 
 #[no_mangle]
-pub extern "C" fn stonespry_space_copy(mem: &mut [u64], target: usize, source: usize) -> SpaceAnswer
-    ensures { λ r. ⌜ record { reply = r; memory = now (mem .exit) } ≡ told spaceAnswer (copyOut (now (mem .entry)) target source) ⌝ }
+pub extern "C" fn stonespry_space_copy(mem: &mut [u64], target: usize, source: usize) -> CallAnswer
+    ensures { λ r. ⌜ record { reply = r; memory = now (mem .exit) } ≡ told callAnswer (copyOut (now (mem .entry)) target source) ⌝ }
 {
     answered(space_calls::copy(mem, target, source))
 }
@@ -208,8 +191,8 @@ pub extern "C" fn stonespry_space_copy(mem: &mut [u64], target: usize, source: u
 // ---- ids
 
 #[no_mangle]
-pub extern "C" fn stonespry_alloc_cap_id(mem: &mut [u64]) -> SpaceAnswer
-    ensures { λ r. ⌜ record { reply = r; memory = now (mem .exit) } ≡ told spaceAnswer (allocOut (now (mem .entry))) ⌝ }
+pub extern "C" fn stonespry_alloc_cap_id(mem: &mut [u64]) -> CallAnswer
+    ensures { λ r. ⌜ record { reply = r; memory = now (mem .exit) } ≡ told callAnswer (allocOut (now (mem .entry))) ⌝ }
 {
     answered(space_calls::alloc_cap_id(mem))
 }
@@ -220,15 +203,15 @@ pub extern "C" fn stonespry_space_create_capability(
     s: usize,
     rights: u32,
     object: u64,
-) -> SpaceAnswer
-    ensures { λ r. ⌜ record { reply = r; memory = now (mem .exit) } ≡ told spaceAnswer (createOut (now (mem .entry)) s rights object) ⌝ }
+) -> CallAnswer
+    ensures { λ r. ⌜ record { reply = r; memory = now (mem .exit) } ≡ told callAnswer (createOut (now (mem .entry)) s rights object) ⌝ }
 {
     answered(space_calls::create_capability(mem, s, Rights(rights), object))
 }
 
 #[no_mangle]
-pub extern "C" fn stonespry_space_revoke(mem: &mut [u64], s: usize, id: u64) -> SpaceAnswer
-    ensures { λ r. ⌜ record { reply = r; memory = now (mem .exit) } ≡ told spaceAnswer (revokeOut (now (mem .entry)) s id) ⌝ }
+pub extern "C" fn stonespry_space_revoke(mem: &mut [u64], s: usize, id: u64) -> CallAnswer
+    ensures { λ r. ⌜ record { reply = r; memory = now (mem .exit) } ≡ told callAnswer (revokeOut (now (mem .entry)) s id) ⌝ }
 {
     answered(space_calls::revoke(mem, s, id))
 }

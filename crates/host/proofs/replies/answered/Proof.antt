@@ -1,8 +1,8 @@
 -- `answered` meets its contract: the answer by its number, the rest field by field.
 -- Assumes nothing.
 use borrow.Author.Needs.{needs}
-use Rattle.host.proofs.spaces.answered.Statement.{statement}
-use Rattle.host.proofs.spaces.answered.Tie as tie
+use Rattle.host.proofs.replies.answered.Statement.{statement}
+use Rattle.host.proofs.replies.answered.Tie as tie
 
 pub answered-spec : {M : Type 1} → statement M
 answered-spec =
