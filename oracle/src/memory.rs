@@ -13,7 +13,7 @@ use crate::View;
 
 const MISSES: usize = HITS + 1;
 /// Created, delegated, revoked, deleted.
-const STATISTICS: usize = EPOCH + 1;
+pub const STATISTICS: usize = EPOCH + 1;
 
 pub fn view(mem: &[u64]) -> Option<View> {
     let numbers = Numbers::read(mem)?;

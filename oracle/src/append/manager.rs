@@ -63,6 +63,25 @@ impl CapabilityManager {
         self.stats.capabilities_deleted.store(view.deleted, Ordering::Relaxed);
     }
 
+    /// How many ids are registered.
+    pub fn registered(&self) -> usize {
+        self.registry.read().len()
+    }
+
+    pub fn is_registered(&self, id: u64) -> bool {
+        self.registry.read().contains_key(&id)
+    }
+
+    /// How many ids are recycled.
+    pub fn recycled(&self) -> usize {
+        self.id_allocator.recycled.read().len()
+    }
+
+    /// `recycle`, for an id that was allocated and not registered.
+    pub fn give_back(&self, id: u64) {
+        self.id_allocator.recycle(id);
+    }
+
     /// Back to the state of a new process.
     pub fn reset(&self) {
         self.put(&ManagerView { next_id: 1, ..ManagerView::default() });

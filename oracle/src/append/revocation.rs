@@ -44,6 +44,11 @@ pub fn put(view: &RevocationView) {
         view.queues.iter().map(|q| (q.pid, q.notices.iter().map(notice).collect())).collect();
 }
 
+/// A capability has no list of children any more.
+pub fn drop_list(id: u64) {
+    DERIVATION_TREE.write().remove(&id);
+}
+
 /// Back to the state of a new process.
 pub fn reset() {
     put(&RevocationView::default());

@@ -213,6 +213,10 @@ impl CapabilitySpace {
         self.stats.misses.store(view.misses, Ordering::Relaxed);
     }
 
+    pub fn set_quota(&mut self, quota: usize) {
+        self.quota = quota;
+    }
+
     /// `table_capacity`, which the source's own crate alone can call.
     pub fn capacity(&self) -> usize {
         self.table_capacity()

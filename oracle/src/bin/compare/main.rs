@@ -1,11 +1,13 @@
 //! compare SUBJECT: the port, linked as its native static libraries, against the original.
 
 mod kinds;
+mod manager;
 mod port;
 mod sound;
 mod space;
 mod table;
 mod token;
+mod world;
 
 use std::env;
 use std::process::ExitCode;
@@ -18,8 +20,9 @@ fn main() -> ExitCode {
         Some("token") => token::compare(&mut tally),
         Some("table") => table::compare(&mut tally),
         Some("space") => space::compare(&mut tally),
+        Some("manager") => manager::compare(&mut tally),
         _ => {
-            eprintln!("usage: compare token|table|space");
+            eprintln!("usage: compare token|table|space|manager");
             return ExitCode::from(2);
         }
     }

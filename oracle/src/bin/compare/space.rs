@@ -1,51 +1,12 @@
 //! Random histories of the calls of a space, over several spaces at once, each call made on both sides. Then the calls
 //! on damaged memory, and which answers each call was seen to give.
 
-mod both;
-mod calls;
-mod port;
-mod wander;
-
-use judge::damage::Target;
 use judge::layout::*;
 use judge::rng::Rng;
 use oracle::{Tally, Test};
 
-use self::both::Both;
-use self::calls::{refused, Call, Words};
-use self::wander::some_token_of;
-use crate::kinds;
 use crate::table::ids_at;
-
-const SEED: u64 = 0x5354_4F4E_4553_5052;
-
-/// Answers go from 0 to 26.
-const ANSWERS: usize = 27;
-
-/// One in so many memories that calls leave is kept.
-const KEPT: usize = 1000;
-
-/// What all histories met.
-#[derive(Default)]
-pub struct Run {
-    calls: usize,
-    /// How often a call gave an answer.
-    seen: [[u64; ANSWERS]; Call::ALL.len()],
-    /// Some of the memories that calls left.
-    reached: Vec<Vec<u64>>,
-}
-
-impl Run {
-    fn note(&mut self, call: Call, answer: u8, mem: &[u64]) {
-        self.seen[call as usize][answer as usize] += 1;
-        self.calls += 1;
-        if self.calls % KEPT == 0 {
-            self.reached.push(mem.to_vec());
-        }
-    }
-}
-
-type Kind = fn(&mut Run, &mut Test, &Rng);
+use crate::world::{self, any_token, set_counters, some_numbers, some_token_of, Both, Call, Kind, Run, SpaceCall};
 
 const KINDS: [(&str, Kind); 16] = [
     ("opened worlds, small ids", opened),
@@ -67,41 +28,17 @@ const KINDS: [(&str, Kind); 16] = [
 ];
 
 pub fn compare(tally: &mut Tally) {
-    println!("space.rs, the calls: random histories, each from seed {SEED:#x}");
-    let mut run = Run::default();
-    for (name, kind) in KINDS {
-        kinds::test(tally, name, |test| kind(&mut run, test, &Rng::new(SEED)));
-    }
-    tally.test("at least 300,000 calls", |test| test.same("calls", true, run.calls >= 300_000));
-    println!("{} calls on both sides. Answers 0 to 26 of each call, seen exactly where it can give them:", run.calls);
-    for ((_, name, possible), seen) in Call::ALL.into_iter().zip(run.seen) {
-        tally.test(name, |test| {
-            for (answer, times) in (0..).zip(seen) {
-                test.same(answer, possible.contains(&answer), times > 0);
-            }
-        });
+    let run = Run::of(tally, "space.rs, the calls", &KINDS);
+    for (_, name, possible) in SpaceCall::ALL {
+        run.test_answers(tally, name, possible);
     }
 }
 
 // ---- The kinds of histories
 
-/// Some spaces, of at most so many entries each.
-fn some_numbers(rng: &Rng, m: usize) -> Numbers {
-    Numbers { s: rng.between(1, 5), m, r: rng.between(1, 40), v: rng.between(1, 8), p: rng.between(1, 2) }
-}
-
 /// The quotas 0, 1, one short of M, and M.
 fn some_quotas(rng: &Rng, Numbers { s, m, .. }: Numbers) -> Vec<u64> {
     (0..s).map(|_| rng.pick(&[0, 1, m - 1, m, m]) as u64).collect()
-}
-
-/// Any id, with anything above it.
-fn any_token(rng: &Rng) -> u64 {
-    if rng.once_in(4) {
-        rng.limit() ^ rng.word() << 48
-    } else {
-        rng.word()
-    }
 }
 
 /// Ids as creates issue them, so that these meet entries that are there.
@@ -127,8 +64,7 @@ fn quotas(run: &mut Run, test: &mut Test, rng: &Rng) {
         let numbers = some_numbers(rng, m);
         let mut both = Both::opened(run, test, rng, numbers, &some_quotas(rng, numbers));
         for _ in 0..numbers.s * (m + 2) {
-            let words = both.some_words(rng, Call::Insert, rng.below(numbers.s), &any_token);
-            both.call(Call::Insert, words);
+            both.call_some(rng, SpaceCall::Insert, rng.below(numbers.s), &any_token);
         }
         both.wander(rng, 600, &any_token);
     }
@@ -156,12 +92,10 @@ fn churn(run: &mut Run, test: &mut Test, rng: &Rng) {
             let s = n % 2;
             if both.mem[numbers.space(s)][LIVE] == size as u64 {
                 let token = both.live(rng, s).unwrap();
-                both.call(Call::Remove, [s as u64, token, 0, 0]);
+                both.call((SpaceCall::Remove, [s as u64, token, 0, 0]));
             }
-            let words = both.some_words(rng, Call::Insert, s, &any_token);
-            both.call(Call::Insert, words);
-            let words = both.some_words(rng, Call::Lookup, s, &any_token);
-            both.call(Call::Lookup, words);
+            both.call_some(rng, SpaceCall::Insert, s, &any_token);
+            both.call_some(rng, SpaceCall::Lookup, s, &any_token);
         }
     }
 }
@@ -181,14 +115,13 @@ fn copies(run: &mut Run, test: &mut Test, rng: &Rng) {
             let mut both = Both::filled(run, test, rng, numbers);
             for _ in 0..8 {
                 for (target, source) in (0..numbers.s * numbers.s).map(|n| (n / numbers.s, n % numbers.s)) {
-                    both.call(Call::Copy, [target as u64, source as u64, 0, 0]);
-                    let emptied = rng.pick(&[Call::Clear, Call::RevokeAll]);
-                    both.call(if rng.once_in(8) { emptied } else { Call::Stats }, [source as u64, 0, 0, 0]);
+                    both.call((SpaceCall::Copy, [target as u64, source as u64, 0, 0]));
+                    let emptied = rng.pick(&[SpaceCall::Clear, SpaceCall::RevokeAll]);
+                    both.call((if rng.once_in(8) { emptied } else { SpaceCall::Stats }, [source as u64, 0, 0, 0]));
                     both.wander(rng, 4, &any_token);
                 }
                 for _ in 0..m + 4 {
-                    let words = both.some_words(rng, Call::Insert, 0, &any_token);
-                    both.call(Call::Insert, words);
+                    both.call_some(rng, SpaceCall::Insert, 0, &any_token);
                 }
             }
         }
@@ -200,18 +133,18 @@ fn growth(run: &mut Run, test: &mut Test, rng: &Rng) {
     for round in 0..9 {
         let mut both = Both::opened(run, test, rng, Numbers { s: 2, ..some_numbers(rng, 256) }, &[256; 2]);
         for s in [0, 1] {
-            while both.call(Call::Insert, [s, any_token(rng), rng.word(), rng.word() >> 32]).answer != 11 {}
-            both.call(Call::TableCapacity, [s, 0, 0, 0]);
+            while both.call((SpaceCall::Insert, [s, any_token(rng), rng.word(), rng.word() >> 32])).answer != 11 {}
+            both.call((SpaceCall::TableCapacity, [s, 0, 0, 0]));
         }
         match round % 3 {
-            0 => both.call(Call::Clear, [1, 0, 0, 0]),
-            1 => both.call(Call::RevokeAll, [1, 0, 0, 0]),
-            _ => both.call(Call::Copy, [1, 0, 0, 0]),
+            0 => both.call((SpaceCall::Clear, [1, 0, 0, 0])),
+            1 => both.call((SpaceCall::RevokeAll, [1, 0, 0, 0])),
+            _ => both.call((SpaceCall::Copy, [1, 0, 0, 0])),
         };
         while let Some(token) = both.live(rng, 0) {
-            both.call(Call::LookupEntry, [0, token, 0, 0]);
-            both.call(Call::Remove, [0, token, 0, 0]);
-            both.call(Call::TableCapacity, [0; 4]);
+            both.call((SpaceCall::LookupEntry, [0, token, 0, 0]));
+            both.call((SpaceCall::Remove, [0, token, 0, 0]));
+            both.call((SpaceCall::TableCapacity, [0; 4]));
         }
     }
 }
@@ -223,13 +156,12 @@ fn last_ids(run: &mut Run, test: &mut Test, rng: &Rng) {
         let mut both = Both::filled(run, test, rng, numbers);
         both.edit(|mem| mem[NEXT] = ID_END - left);
         while both.mem[RECYCLED] > 0 || both.mem[NEXT] < ID_END {
-            let call = rng.pick(&[Call::AllocCapId, Call::CreateCapability, Call::CreateCapability]);
-            let words = both.some_words(rng, call, rng.below(numbers.s), &any_token);
-            both.call(call, words);
+            let call = rng.pick(&[SpaceCall::AllocCapId, SpaceCall::CreateCapability, SpaceCall::CreateCapability]);
+            both.call_some(rng, call, rng.below(numbers.s), &any_token);
         }
         for s in 0..numbers.s as u64 {
-            both.call(Call::AllocCapId, [0; 4]);
-            both.call(Call::CreateCapability, [s, rng.word() >> 32, rng.word(), 0]);
+            both.call((SpaceCall::AllocCapId, [0; 4]));
+            both.call((SpaceCall::CreateCapability, [s, rng.word() >> 32, rng.word(), 0]));
         }
         both.wander(rng, 60, &|rng| ID_END - 1 - rng.word() % 8);
     }
@@ -253,19 +185,10 @@ fn counters(run: &mut Run, test: &mut Test, rng: &Rng) {
         for _ in 0..8 {
             both.edit(|mem| (0..numbers.s).for_each(|s| set_counters(rng, &mut mem[numbers.space(s)])));
             both.wander(rng, 20, &any_token);
-            both.call(Call::IncrementGeneration, [rng.below(numbers.s) as u64, 0, 0, 0]);
-            both.call(Call::RevokeAll, [rng.below(numbers.s) as u64, 0, 0, 0]);
+            both.call((SpaceCall::IncrementGeneration, [rng.below(numbers.s) as u64, 0, 0, 0]));
+            both.call((SpaceCall::RevokeAll, [rng.below(numbers.s) as u64, 0, 0, 0]));
             both.wander(rng, 20, &any_token);
         }
-    }
-}
-
-fn set_counters(rng: &Rng, space: &mut [u64]) {
-    space[GENERATION] = rng.between(253, 255) as u64;
-    space[HITS] = u64::MAX - rng.word() % 4;
-    space[HITS + 1] = u64::MAX - rng.word() % 4;
-    for slot in 0..space[SLOTS] as usize {
-        space[judge::table::slot_at(slot) + 2] = u64::MAX - rng.word() % 4;
     }
 }
 
@@ -277,7 +200,7 @@ fn all_entries(run: &mut Run, test: &mut Test, rng: &Rng) {
             let s = rng.below(numbers.s);
             both.wander(rng, 4, &any_token);
             for n in (0..both.mem[numbers.space(s)][LIVE] + 2).chain([u64::MAX]) {
-                both.call(Call::NthEntry, [s as u64, n, 0, 0]);
+                both.call((SpaceCall::NthEntry, [s as u64, n, 0, 0]));
             }
         }
     }
@@ -296,16 +219,16 @@ fn bad_arguments(run: &mut Run, test: &mut Test, rng: &Rng) {
         let mut both = Both::filled(run, test, rng, numbers);
         let first = numbers.s as u64;
         for space in [first, first + 1, 63, 64, 1 << 32, 1 << 63, u64::MAX - first, u64::MAX] {
-            for (call, ..) in Call::ALL {
+            for (call, ..) in SpaceCall::ALL {
                 let [_, a, b, c] = both.some_words(rng, call, 0, &any_token);
-                both.call(call, [space.max(first), a, b, c]);
+                both.call((call, [space.max(first), a, b, c]));
             }
-            both.call(Call::Copy, [rng.word() % first, space.max(first), 0, 0]);
+            both.call((SpaceCall::Copy, [rng.word() % first, space.max(first), 0, 0]));
         }
         for id in [ID_END, ID_END + 1, 1 << 56, u64::MAX, ID_END + rng.word() % (u64::MAX - ID_END)] {
-            for call in [Call::GetEntry, Call::Revoke] {
-                both.call(call, [rng.word() % first, id, 0, 0]);
-                both.call(call, [first, id, 0, 0]);
+            for call in [SpaceCall::GetEntry, SpaceCall::Revoke] {
+                both.call((call, [rng.word() % first, id, 0, 0]));
+                both.call((call, [first, id, 0, 0]));
             }
         }
         both.wander(rng, 60, &any_token);
@@ -314,41 +237,16 @@ fn bad_arguments(run: &mut Run, test: &mut Test, rng: &Rng) {
 
 // ---- Memory that is not sound
 
-/// Any call with any words answers 26 there, and changes nothing.
-fn refuses(run: &mut Run, test: &mut Test, rng: &Rng, mem: &[u64]) {
-    let (call, ..) = rng.pick(&Call::ALL);
-    let words: Words = [rng.word() % 6, any_token(rng), rng.word(), rng.word()];
-    let mut after = mem.to_vec();
-    let answered = call.port(&mut after, words);
-    test.same((call, words), (refused(26), true), (answered, after == mem));
-    run.seen[call as usize][answered.answer as usize] += 1;
+/// Any call with any words.
+fn any_call(rng: &Rng) -> Box<dyn Call> {
+    let (call, ..) = rng.pick(&SpaceCall::ALL);
+    Box::new((call, [rng.word() % 6, any_token(rng), rng.word(), rng.word()]))
 }
 
 fn short(run: &mut Run, test: &mut Test, rng: &Rng) {
-    for n in 0..400 {
-        let numbers = some_numbers(rng, rng.between(1, 12));
-        let mem = judge::worlds::random(rng, numbers).mem;
-        let length = [0, 1, 4, HEAD - 1, HEAD, numbers.length() - 1][n % 6];
-        for length in [length, rng.below(numbers.length())] {
-            test.same(length, false, port::is_sound(&mem[..length]));
-            refuses(run, test, rng, &mem[..length]);
-        }
-    }
+    world::short(run, test, rng, any_call);
 }
 
-/// The port's look beside the judge, on memories that calls left, sound and damaged.
 fn damaged(run: &mut Run, test: &mut Test, rng: &Rng) {
-    for mut mem in std::mem::take(&mut run.reached) {
-        test.same(&mem[..HEAD], (true, true), (judge::sound(&mem), port::is_sound(&mem)));
-        let mut target = Target::new(&mut mem);
-        for _ in 0..200 {
-            target.strike(rng, |mem, blow| {
-                let sound = judge::sound(mem);
-                test.same((blow.kind, &blow.changed), sound, port::is_sound(mem));
-                if !sound {
-                    refuses(run, test, rng, mem);
-                }
-            });
-        }
-    }
+    world::damaged(run, test, rng, any_call);
 }

@@ -3,7 +3,7 @@
 
 use std::sync::atomic::Ordering::Relaxed;
 
-use judge::layout::ID_END;
+use judge::layout::{Numbers, ID_END};
 use oracle::cap::object::ObjectRef;
 use oracle::cap::space::{CapabilityEntry, CapabilitySpace};
 use oracle::cap::token::{alloc_cap_id, CapabilityToken, Rights};
@@ -11,11 +11,14 @@ use oracle::cap::types::CapabilityId;
 use oracle::error::{CapError, KernelError};
 use oracle::History;
 
+use super::call::{done, moves, refused, replied, Call, Reply};
+use super::port;
+
 /// A call's words: the space, then its arguments in the order of the port's call; 0 where it has fewer.
 pub type Words = [u64; 4];
 
 #[derive(Debug, Clone, Copy, PartialEq, Eq)]
-pub enum Call {
+pub enum SpaceCall {
     Used,
     Quota,
     TableCapacity,
@@ -37,18 +40,56 @@ pub enum Call {
     Revoke,
 }
 
-use Call::*;
+use SpaceCall::*;
 
-/// A call's answer, and its values in the order of the port's reply; 0 where it has fewer.
-#[derive(Debug, Clone, Copy, PartialEq, Eq)]
-pub struct Reply {
-    pub answer: u8,
-    pub values: [u64; 5],
+impl Call for (SpaceCall, Words) {
+    fn name(&self) -> &'static str {
+        SpaceCall::ALL[self.0 as usize].1
+    }
+
+    /// A lookup stays counted, an id taken is lost.
+    fn changes_on(&self, answer: u8) -> bool {
+        match self.0 {
+            Used | Quota | TableCapacity | Generation | Stats | GetEntry | NthEntry => false,
+            Lookup | LookupEntry | CheckRights => answer < 20,
+            CreateCapability => answer < 12,
+            _ => answer == 0,
+        }
+    }
+
+    fn spaces(&self) -> Vec<usize> {
+        match self {
+            (AllocCapId, _) => Vec::new(),
+            (_, [s, ..]) => vec![*s as usize],
+        }
+    }
+
+    /// Document 01's 20 and 21 come first.
+    fn original(&self, history: &mut History, _: Numbers) -> Reply {
+        let (call, [s, a, b, c]) = *self;
+        let [at, other] = [s, a].map(|number| number as usize);
+        let spaces = history.spaces.len();
+        if call != AllocCapId && spaces <= at || call == Copy && spaces <= other {
+            return refused(20);
+        }
+        if matches!(call, GetEntry | Revoke) && ID_END <= a {
+            return refused(21);
+        }
+        match call {
+            AllocCapId => alloc_cap_id().map_or(refused(9), |id| done(id, 0)),
+            Copy => copied(&history.spaces[at], &history.spaces[other]),
+            _ => call.original_in(&mut history.spaces[at], [a, b, c]),
+        }
+    }
+
+    fn port(&self, mem: &mut [u64]) -> Reply {
+        port::space_call(mem, self.0, self.1)
+    }
 }
 
-impl Call {
+impl SpaceCall {
     /// In the order above, each by its name in the source and with the answers that it can give.
-    pub const ALL: [(Call, &'static str, &'static [u8]); 19] = [
+    pub const ALL: [(SpaceCall, &'static str, &'static [u8]); 19] = [
         (Used, "used", &[0, 20, 26]),
         (Quota, "quota", &[0, 20, 26]),
         (TableCapacity, "table_capacity", &[0, 20, 26]),
@@ -66,37 +107,9 @@ impl Call {
         (RevokeAll, "revoke_all", &[0, 20, 26]),
         (Copy, "clone_from", &[0, 20, 26]),
         (AllocCapId, "alloc_cap_id", &[0, 9, 26]),
-        (CreateCapability, "create_capability", &[0, 7, 11, 12, 20, 26]),
-        (Revoke, "revoke", &[0, 8, 20, 21, 26]),
+        (CreateCapability, "space-made create", &[0, 7, 11, 12, 20, 26]),
+        (Revoke, "space revoke", &[0, 8, 20, 21, 26]),
     ];
-
-    /// Whether the call may change the memory where it gives this answer: a lookup stays counted, an id taken is lost.
-    pub fn changes_on(self, answer: u8) -> bool {
-        match self {
-            Used | Quota | TableCapacity | Generation | Stats | GetEntry | NthEntry => false,
-            Lookup | LookupEntry | CheckRights => answer < 20,
-            CreateCapability => answer < 12,
-            _ => answer == 0,
-        }
-    }
-
-    /// What document 01 and the source answer: its 20 and 21 come first.
-    pub fn original(self, history: &mut History, words: Words) -> Reply {
-        let [s, a, b, c] = words;
-        let [at, other] = [s, a].map(|number| number as usize);
-        let spaces = history.spaces.len();
-        if self != AllocCapId && spaces <= at || self == Copy && spaces <= other {
-            return refused(20);
-        }
-        if matches!(self, GetEntry | Revoke) && ID_END <= a {
-            return refused(21);
-        }
-        match self {
-            AllocCapId => alloc_cap_id().map_or(refused(9), |id| done(id, 0)),
-            Copy => copied(&history.spaces[at], &history.spaces[other]),
-            _ => self.original_in(&mut history.spaces[at], [a, b, c]),
-        }
-    }
 
     fn original_in(self, space: &mut CapabilitySpace, [a, b, c]: [u64; 3]) -> Reply {
         let token = CapabilityToken::from_u64(a);
@@ -122,7 +135,7 @@ impl Call {
             }
             Revoke => match space.revoke(CapabilityId(a)) {
                 Ok(()) => done(0, visits),
-                Err(why) => Reply { values: [0, visits as u64, 0, 0, 0], ..refused(number(why)) },
+                Err(why) => Reply { answer: number(why), ..done(0, visits) },
             },
             Copy | AllocCapId => unreachable!("not a call of one space"),
         }
@@ -130,14 +143,6 @@ impl Call {
 }
 
 // ---- Replies
-
-pub fn refused(answer: u8) -> Reply {
-    Reply { answer, values: [0; 5] }
-}
-
-fn done(value: u64, count: usize) -> Reply {
-    Reply { answer: 0, values: [value, count as u64, 0, 0, 0] }
-}
 
 fn after(change: impl FnOnce()) -> Reply {
     change();
@@ -154,15 +159,15 @@ fn found(value: Option<u64>, visits: usize) -> Reply {
 fn entry(entry: Option<CapabilityEntry>, visits: usize) -> Reply {
     let visits = visits as u64;
     match entry.as_ref().map(CapabilityEntry::view) {
-        Some(e) => Reply { answer: 0, values: [e.token, e.object, e.rights.into(), e.uses, visits] },
-        None => Reply { answer: 8, values: [0, 0, 0, 0, visits] },
+        Some(e) => replied(0, [e.token, e.object, e.rights.into(), e.uses, visits]),
+        None => replied(8, [0, 0, 0, 0, visits]),
     }
 }
 
 fn stats(space: &CapabilitySpace) -> Reply {
     let stats = space.stats();
     let [hits, misses, total] = [&stats.hits, &stats.misses, &stats.total_caps].map(|count| count.load(Relaxed));
-    Reply { answer: 0, values: [hits, misses, total, 0, 0] }
+    replied(0, [hits, misses, total, 0, 0])
 }
 
 /// The port answers the whole entry as it was before this use; of it the source answers object and rights.
@@ -188,14 +193,14 @@ fn nth(space: &CapabilitySpace, n: u64) -> Option<CapabilityEntry> {
     entry
 }
 
-/// An insert, with the entries that it moved: all that there were, if the slots stand elsewhere after it.
+/// An insert, with the entries that it moved.
 fn inserted(
     space: &mut CapabilitySpace,
     insert: impl FnOnce(&mut CapabilitySpace) -> Result<u64, KernelError>,
 ) -> Reply {
-    let (slots, used) = (space.slots_address(), space.used());
+    let moved = moves(space);
     match insert(space) {
-        Ok(value) => done(value, if space.slots_address() == slots { 0 } else { used }),
+        Ok(value) => done(value, moved(space)),
         Err(why) => refused(number(why)),
     }
 }

@@ -9,15 +9,17 @@ use judge::worlds;
 use oracle::cap::space::SpaceView;
 use oracle::{memory, History, Test, View};
 
-use super::calls::{Call, Reply, Words};
+use super::call::{Call, Made, Reply};
 use super::{port, Run};
 use crate::kinds;
 
 pub struct Both<'a> {
-    run: &'a mut Run,
+    pub run: &'a mut Run,
     test: &'a mut Test,
     pub numbers: Numbers,
-    original: History,
+    pub(super) original: History,
+    /// The state of both.
+    pub state: View,
     /// The port's memory, and what it was before the last call.
     pub mem: Vec<u64>,
     before: Vec<u64>,
@@ -45,7 +47,8 @@ impl<'a> Both<'a> {
 
     fn new(run: &'a mut Run, test: &'a mut Test, numbers: Numbers, quotas: &[u64], mem: Vec<u64>) -> Self {
         let quotas: Vec<usize> = quotas.iter().map(|&quota| quota as usize).collect();
-        Self { run, test, numbers, original: History::open(&quotas), before: mem.clone(), mem }
+        let original = History::open(&quotas);
+        Self { run, test, numbers, state: original.view(), original, before: mem.clone(), mem }
     }
 
     /// Changes words of the memory by hand, to another sound one, on both sides.
@@ -57,49 +60,82 @@ impl<'a> Both<'a> {
     /// The original takes over what the memory holds.
     fn take_over(&mut self) {
         assert!(judge::sound(&self.mem));
-        self.original.put(&memory::view(&self.mem).unwrap());
+        self.state = memory::view(&self.mem).unwrap();
+        self.original.put(&self.state);
     }
 
     /// One call on both sides.
-    pub fn call(&mut self, call: Call, words: Words) -> Reply {
+    pub fn call(&mut self, call: impl Call) -> Reply {
         self.before.clone_from(&self.mem);
-        let expected = call.original(&mut self.original, words);
-        let answered = call.port(&mut self.mem, words);
-        let kept = self.kept(call, words[0], answered.answer);
+        let expected = call.original(&mut self.original, self.numbers);
+        let reply = call.port(&mut self.mem);
+        let before = std::mem::replace(&mut self.state, self.original.view());
+        let kept = self.kept(&call, reply.answer);
         let differs = self.difference();
-        self.test.same((call, words), (expected, true, None), (answered, kept, differs));
+        self.test.same(&call, (&expected, true, None), (&reply, kept, differs));
         kinds::end_if_apart(self.test);
-        self.run.note(call, answered.answer, &self.mem);
-        answered
+        let made = Made { numbers: self.numbers, reply: &reply, before: &before, after: &self.state };
+        self.run.note(&call, &made, &self.mem);
+        reply
     }
 
-    /// Whether no word changed but those that the call may change: of a space all but its quota and its spare word, the
-    /// states of registered ids, the recycled ids with their count, and the next id.
-    fn kept(&self, call: Call, s: u64, answer: u8) -> bool {
+    /// Whether of the words that the state does not show none changed but those that the call may change, and the
+    /// registered ids stand in the order of registration.
+    fn kept(&self, call: &impl Call, answer: u8) -> bool {
         if !call.changes_on(answer) {
             return self.mem == self.before;
         }
+        let spaces = call.spaces();
+        let same = |range: Range<usize>| self.mem[range.clone()] == self.before[range];
+        let same_space = |s: usize| {
+            let space = self.numbers.space(s);
+            let spare = space.start + SLOTS - 1;
+            if spaces.contains(&s) {
+                same(spare..spare + 1)
+            } else {
+                same(space)
+            }
+        };
+        same(0..NEXT)
+            && same(LOGGED + 1..HEAD)
+            && (0..self.numbers.s).all(same_space)
+            && self.unused_places(answer).into_iter().all(same)
+            && self.ids_in_order()
+    }
+
+    /// The places of the registry and the log that were not in use and are not, the queues, and what is past the world.
+    /// With 4, an id whose registration was undone stood one place further.
+    fn unused_places(&self, answer: u8) -> [Range<usize>; 7] {
+        let used = |count: usize| self.mem[count].max(self.before[count]) as usize;
+        let registered = used(REGISTERED) + usize::from(answer == 4);
+        let unused = |part: Range<usize>, used: usize| part.end.min(part.start + used)..part.end;
         let numbers = self.numbers;
-        let [registered, recycled] = [REGISTERED, RECYCLED].map(|count| self.before[count] as usize);
-        let space = if call == Call::AllocCapId { HEAD..HEAD } else { numbers.space(s as usize) };
-        let fixed = [
-            0..NEXT,
-            NEXT + 1..RECYCLED,
-            RECYCLED + 1..space.start + QUOTA + 1,
-            space.start + SLOTS - 1..space.start + SLOTS,
-            space.end..numbers.states().start,
-            numbers.states().start + registered..numbers.recycled().start,
-            numbers.recycled().start + recycled..self.mem.len(),
-        ];
-        fixed.into_iter().all(|range: Range<usize>| self.mem[range.clone()] == self.before[range])
+        [
+            unused(numbers.ids(), registered),
+            unused(numbers.objects(), registered),
+            unused(numbers.states(), registered),
+            unused(numbers.links(), registered),
+            unused(numbers.recycled(), used(RECYCLED)),
+            unused(numbers.log(), used(LOGGED)),
+            numbers.log().end..self.mem.len(),
+        ]
+    }
+
+    /// Whether the ids that stayed registered stand as they stood, and new ones behind them.
+    fn ids_in_order(&self) -> bool {
+        let [before, now] = [&self.before, &self.mem].map(|mem| &mem[self.numbers.ids()][..mem[REGISTERED] as usize]);
+        let mut stayed = 0;
+        for id in before {
+            stayed += usize::from(now.get(stayed) == Some(id));
+        }
+        now[stayed..].iter().all(|id| !before.contains(id))
     }
 
     /// Where the states of the two sides differ, if they do.
-    fn difference(&self) -> Option<String> {
-        let original = self.original.view();
+    pub(super) fn difference(&self) -> Option<String> {
         match memory::view(&self.mem) {
-            Some(port) if port == original => None,
-            Some(port) => Some(shown(&original, &port)),
+            Some(port) if port == self.state => None,
+            Some(port) => Some(shown(&self.state, &port)),
             None => Some("a count or a coded field of the memory is none".to_string()),
         }
     }
