@@ -1,3 +1,0 @@
--- What the contracts of `revocation_calls` cite.
-pub mod Revoking
-pub mod Calls
