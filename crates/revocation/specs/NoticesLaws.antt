@@ -105,7 +105,7 @@ module _ (id time reason : ℕ) (qu : List ℕ) (long : 771 ≤ length qu) (code
 
 -- ---- notices that join one after another
 
-last-last : (m : ℕ) (xs ys : List ℕ) → lastWords m (lastWords m xs ++ ys) ≡ lastWords m (xs ++ ys)
+pub last-last : (m : ℕ) (xs ys : List ℕ) → lastWords m (lastWords m xs ++ ys) ≡ lastWords m (xs ++ ys)
 last-last m xs ys =
     let gone : ℕ = length xs - m in
     let joined : drop gone xs ++ ys ≡ drop gone (xs ++ ys) = sym (drop-append-le gone xs ys (omega arith)) in

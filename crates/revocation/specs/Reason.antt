@@ -1,9 +1,11 @@
 -- Why a capability was revoked, as a number and by name. Document 01: reasons print as explicit, parent_revoked, process_exit,
 -- policy_enforced. A name is the list of its ASCII bytes.
 use mathlib.Core.List.{List, [], _∷_}
+use mathlib.Core.Path.{_≡_, refl}
 use Prim.Native.Nat.{ℕ, _≤_}
 use native.Mathlib.Omega.{arith}
-use lib.ListN.{length}
+use lib.Dec.{eqb}
+use Rattle.base.specs.Choose.{pick}
 use Rattle.revocation.specs.declared.RevocationReason.{RevocationReason}
 use Rattle.revocation.specs.declared.RevocationReason.the-variants.{Explicit, ParentRevoked, ProcessExit, PolicyEnforced}
 
@@ -12,6 +14,11 @@ numberOf Explicit = 0
 numberOf ParentRevoked = 1
 numberOf ProcessExit = 2
 numberOf PolicyEnforced = 3
+
+-- The reason of a number up to 3.
+abbrev pub reasonOf : ℕ → RevocationReason
+reasonOf number =
+    pick (eqb number 0) Explicit (pick (eqb number 1) ParentRevoked (pick (eqb number 2) ProcessExit PolicyEnforced))
 
 abbrev pub nameOf : RevocationReason → List ℕ
 nameOf Explicit = 101 ∷ 120 ∷ 112 ∷ 108 ∷ 105 ∷ 99 ∷ 105 ∷ 116 ∷ []
@@ -26,9 +33,9 @@ number-listed ParentRevoked = omega arith
 number-listed ProcessExit = omega arith
 number-listed PolicyEnforced = omega arith
 
--- The longest name has 15 bytes.
-pub name-length : (reason : RevocationReason) → length (nameOf reason) ≤ 15
-name-length Explicit = omega arith
-name-length ParentRevoked = omega arith
-name-length ProcessExit = omega arith
-name-length PolicyEnforced = omega arith
+-- Each is the reason of its number.
+pub reason-of-number : (reason : RevocationReason) → reasonOf (numberOf reason) ≡ reason
+reason-of-number Explicit = refl
+reason-of-number ParentRevoked = refl
+reason-of-number ProcessExit = refl
+reason-of-number PolicyEnforced = refl

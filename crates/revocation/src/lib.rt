@@ -3,7 +3,7 @@ ghost use mathlib.Core.Path.{_≡_};
 ghost use Prim.Native.Nat.{_≤_};
 ghost use lib.ListN.{length};
 ghost use Rattle.base.specs.Written.{written};
-ghost use Rattle.revocation.specs.Reason.{numberOf, nameOf};
+ghost use Rattle.revocation.specs.Reason.{numberOf, reasonOf, nameOf};
 
 pub mod log;
 pub mod look;
@@ -33,6 +33,34 @@ impl RevocationReason {
             RevocationReason::PolicyEnforced => 3,
         }
     }
+
+    // How many bytes its name has.
+    pub fn name_length(self) -> usize
+        ensures { λ r. ⌜ r ≡ length (nameOf self) ⌝ }
+    {
+        match self {
+            RevocationReason::Explicit => 8,
+            RevocationReason::ParentRevoked => 14,
+            RevocationReason::ProcessExit => 12,
+            RevocationReason::PolicyEnforced => 15,
+        }
+    }
+}
+
+// The reason of a number; those over 3 are of none, and callers refuse them.
+pub fn reason_of(number: u8) -> RevocationReason
+    ensures { λ r. ⌜ r ≡ reasonOf number ⌝ }
+{
+    if number == 0 {
+        return RevocationReason::Explicit;
+    }
+    if number == 1 {
+        return RevocationReason::ParentRevoked;
+    }
+    if number == 2 {
+        return RevocationReason::ProcessExit;
+    }
+    RevocationReason::PolicyEnforced
 }
 
 // Writes a name to the front of the area; answers its length.
@@ -50,7 +78,7 @@ fn write_name(name: &[u8], area: &mut [u8]) -> usize
 
 // Writes the reason's name to the front of the area; answers its length. The source's `as_str`.
 pub fn write_reason(reason: RevocationReason, area: &mut [u8]) -> usize
-    requires { ⌜ 15 ≤ length (now area) ⌝ }
+    requires { ⌜ length (nameOf reason) ≤ length (now area) ⌝ }
     ensures { λ r. ⌜ (r ≡ length (nameOf reason)) × (now (area .exit) ≡ written (nameOf reason) (now (area .entry))) ⌝ }
 {
     match reason {
