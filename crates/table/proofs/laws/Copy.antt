@@ -24,15 +24,15 @@ use Rattle.table.proofs.laws.Structure.{Lacks, sound-structure, none-so
 use Rattle.table.proofs.laws.Visits.{liveIn}
 
 -- The table u holds the copies of what the source has below slot i.
-record Copying (most : ℕ) (source target : List ℕ) (i : ℕ) (u : Table) : Type 0 where
-  sound : Sound most (u .words) (u .counts)
-  full : u .counts .full ≡ liveIn source i
-  holds : (x : CapabilityEntry) → Holds (u .words) (u .counts .slots) x ↔ HoldsAs fresh source i x
-  long : length (u .words) ≡ length target
-  paid : u .moved + potential (u .counts) ≤ 3 * liveIn source i
+pub record Copying (most : ℕ) (source target : List ℕ) (i : ℕ) (u : Table) : Type 0 where
+  pub sound : Sound most (u .words) (u .counts)
+  pub full : u .counts .full ≡ liveIn source i
+  pub holds : (x : CapabilityEntry) → Holds (u .words) (u .counts .slots) x ↔ HoldsAs fresh source i x
+  pub long : length (u .words) ≡ length target
+  pub paid : u .moved + potential (u .counts) ≤ 3 * liveIn source i
 
 -- One entry copied.
-abbrev copyOne : CapabilityEntry → Table → Table
+abbrev pub copyOne : CapabilityEntry → Table → Table
 copyOne e u =
     let v = insertNew (u .words) (u .counts) (fresh e) in
     record { words = v .words; counts = v .counts; moved = u .moved + v .moved }
@@ -40,7 +40,7 @@ copyOne e u =
 module _
     (most : ℕ) (source : List ℕ) (t : CapTable) (target : List ℕ) (sound : Sound most source t) (long : 4 * slotsFor most ≤ length target)
   where
-    copying-first : Copying most source target 0 (record { words = target; counts = none; moved = 0 })
+    pub copying-first : Copying most source target 0 (record { words = target; counts = none; moved = 0 })
     copying-first =
         let zero-live = sum-zero (λ i. one (isLive source i)) in
         record {
@@ -51,7 +51,13 @@ module _
           paid = omega (arith, none-pays);
         }
 
-    copying-more :
+    -- The table has room for the entry of the next live slot,
+    pub copying-room :
+        (i : ℕ) (u : Table) → i < t .slots → isLive source i ≡ true → Copying most source target i u → u .counts .full < most
+    copying-room i u l live c = omega (arith, c .full, live-below source (t .slots) i l live, sound .live-agrees, sound .within)
+
+    -- and takes it.
+    pub copying-more :
         (i : ℕ) (u : Table) → i < t .slots → isLive source i ≡ true → Copying most source target i u
         → Copying most source target (suc i) (copyOne (entryAt source i) u)
     copying-more i u l live c =
@@ -72,14 +78,7 @@ module _
         rights = entry-rights source i
 
         more : u .counts .full < most
-        more =
-            omega (
-              arith,
-              c .full,
-              live-below source (t .slots) i l live,
-              sound .live-agrees,
-              sound .within,
-            )
+        more = copying-room i u l live c
 
         lacks : Lacks (u .words) (u .counts .slots) (idOf e)
         lacks =
@@ -91,7 +90,7 @@ module _
         fits : 4 * slotsFor most ≤ length (u .words)
         fits = omega (arith, c .long)
 
-    copying-same :
+    pub copying-same :
         (i : ℕ) (u : Table) → i < t .slots → isLive source i ≡ false → Copying most source target i u
         → Copying most source target (suc i) u
     copying-same i u l free c =

@@ -19,7 +19,8 @@ use Rattle.table.proofs.laws.LiveEntries.{live-count}
 use Rattle.table.proofs.laws.Rebuild.{rebuild-length, rebuild-structure, rebuild-holds-the-same}
 use Rattle.table.proofs.laws.Room.{capacity-le, room-fits, room-capacity}
 use Rattle.table.proofs.laws.Slots.{entry-length}
-use Rattle.table.proofs.laws.Structure.{Structure, Lacks, Place, sound-structure, structure-sound, free-visits, free-ends, free-place, placing-keeps}
+use Rattle.table.proofs.laws.Visits.{liveIn, removedIn, free-le}
+use Rattle.table.proofs.laws.Structure.{Structure, Lacks, Place, sound-structure, structure-sound, free-ends, free-place, placing-keeps}
 
 -- The table r is t with room for one more entry.
 record Roomy (most : ℕ) (ws : List ℕ) (t : CapTable) (r : Table) : Type 0 where
@@ -60,8 +61,9 @@ module _ (most : ℕ) (ws : List ℕ) (t : CapTable) (sound : Sound most ws t) (
 
     pub insert-walk-visits :
         stepsToFree (madeRoom ws t .words) (madeRoom ws t .counts .slots) id + 1
-        ≤ madeRoom ws t .counts .full + madeRoom ws t .counts .tombstones + 1
-    insert-walk-visits = free-visits _ _ id _ _ (made-roomy .structure)
+        ≤ liveIn (madeRoom ws t .words) (madeRoom ws t .counts .slots) + removedIn (madeRoom ws t .words) (madeRoom ws t .counts .slots) + 1
+    insert-walk-visits =
+        omega (arith, free-le (madeRoom ws t .words) (madeRoom ws t .counts .slots) id (made-roomy .structure .coded))
 
 module _
     (most : ℕ) (ws : List ℕ) (t : CapTable) (e : CapabilityEntry) (sound : Sound most ws t) (more : t .full < most)

@@ -16,8 +16,8 @@ use Rattle.table.specs.Sound.{Sound}
 use Rattle.table.specs.declared.CapabilityEntry.{CapabilityEntry}
 use Rattle.table.specs.declared.CapTable.{CapTable}
 use Rattle.table.proofs.laws.Slots.{entry-length}
-use Rattle.table.proofs.laws.Visits.{liveIn}
-use Rattle.table.proofs.laws.Structure.{Structure, recounted, none-marked, Place, Lacks, sound-structure, structure-sound, free-visits, free-place, placing-keeps, emptied-length, emptied-structure}
+use Rattle.table.proofs.laws.Visits.{liveIn, removedIn, free-le}
+use Rattle.table.proofs.laws.Structure.{Structure, recounted, none-marked, Place, Lacks, sound-structure, structure-sound, free-place, placing-keeps, emptied-length, emptied-structure}
 use Rattle.table.proofs.laws.Contents.{Holds, entry-rights, lacks-iff, held-counted, holds-taken, holds-passed, earlier-id-differs, placing-holds}
 use Rattle.table.proofs.laws.LiveEntries.{live-next, free-next, live-below, each-live}
 use Rattle.table.proofs.laws.Room.{room-fits, room-le, room-capacity}
@@ -98,14 +98,23 @@ module _
         (emptied source n) filled-first
 
     -- Each placing of a rebuild: the walk for the entry of slot i, into the table that holds the entries below, ends, and visits at
-    -- most one slot more than there are such entries.
+    -- most one slot more than there are live and removed ones.
     module _ (i : ℕ) (l : i < slots) (lives : isLive source i ≡ true) (id : ℕ) where
-      pub rebuild-walk-visits : stepsToFree (rebuilt source i n) n id + 1 ≤ liveIn source i + 1
-      rebuild-walk-visits =
-          omega (arith, free-visits (rebuilt source i n) n id (liveIn source i) 0 (rebuilt-filled i (omega arith) .structure))
+      pub rebuild-walk-visits :
+          stepsToFree (rebuilt source i n) n id + 1 ≤ liveIn (rebuilt source i n) n + removedIn (rebuilt source i n) n + 1
+      rebuild-walk-visits = omega (arith, free-le (rebuilt source i n) n id (rebuilt-filled i (omega arith) .structure .coded))
 
       pub rebuild-walk-ends : stepsToFree (rebuilt source i n) n id < n
-      rebuild-walk-ends = omega (arith, rebuild-walk-visits, live-below source slots i l lives, st .live-agrees)
+      rebuild-walk-ends =
+          let filled = rebuilt-filled i (omega arith) .structure in
+          omega (
+            arith,
+            rebuild-walk-visits,
+            filled .live-agrees,
+            filled .removed-agrees,
+            live-below source slots i l lives,
+            st .live-agrees,
+          )
 
     pub rebuilt-length : length (rebuilt source slots n) ≡ length source
     rebuilt-length = rebuilt-filled slots (omega arith) .long

@@ -128,7 +128,7 @@ live-not-removed ws i l = rw (eqb-true (kindAt ws i) 2 l)
 
 module _ (ws : List ℕ) (slots id live removed : ℕ) (st : Structure ws slots live removed) where
   -- The walk for a free place visits at most one slot more than the live and removed entries,
-  pub free-visits : stepsToFree ws slots id + 1 ≤ live + removed + 1
+  free-visits : stepsToFree ws slots id + 1 ≤ live + removed + 1
   free-visits = omega (arith, free-le ws slots id (st .coded))
 
   module _ (space : live + removed < slots) where
