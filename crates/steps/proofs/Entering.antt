@@ -109,10 +109,13 @@ module _ (mem : List ℕ) (r : Entered) (seen : r ≡ enteredWorld mem) where
     pub world-call : {A : Type 0} (refuse : Answer → A) (call : Numbers → A) → onWorld refuse mem call ≡ call d
     world-call refuse call = world-goes-on refuse mem call d (sym seen ∙ good)
 
-    pub world-ready : Ready d mem
-    world-ready =
+    pub world-sound : SoundAt d mem
+    world-sound =
         let inside = world-inside mem d (sym seen ∙ good) in
-        rw (inside .numbers) (ready-at (numbersOf mem) mem (inside .sound))
+        rw (inside .numbers) (inside .sound)
+
+    pub world-ready : Ready d mem
+    world-ready = ready-at d mem world-sound
 
 -- ---- the code's own ways
 

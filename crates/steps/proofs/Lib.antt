@@ -2,8 +2,6 @@
 pub mod laws
 pub mod Entering
 pub mod Lending
-pub mod Queues
-pub mod Notifying
 pub mod Entries
 pub mod TakingIds
 pub mod Copying

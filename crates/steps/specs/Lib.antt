@@ -3,4 +3,3 @@ pub mod Enter
 pub mod Ready
 pub mod Steps
 pub mod Replies
-pub mod Revocation

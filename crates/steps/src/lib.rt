@@ -6,7 +6,6 @@ pub mod holders;
 pub mod ids;
 pub mod registered;
 pub mod replies;
-pub mod revoked;
 pub mod spaces;
 
 use answers::Answer;

@@ -1,11 +1,13 @@
--- What the contract of each call says of its answer and of the memory that it leaves is one equation,
--- `record { reply = r; memory = now (mem .exit) } ≡ theOut (now (mem .entry)) ..`, or `r ≡ theOut ..` where the memory is only read: the
--- right side speaks of the input alone. Two results that keep the contract on one input are therefore equal, in answer and memory. The
--- second form is that of used, quota, table_capacity, generation, stats, get_entry and nth_entry, the first that of all others.
+-- What the contract of each call says is one equation whose right side speaks of the input alone:
+-- `r ≡ theOut (now (mem .entry)) ..` where nothing is lent to be changed, `record { reply = r; memory = now (mem .exit) } ≡ theOut ..` where
+-- the memory is, `record { reply = r; area = now (area .exit) } ≡ theOut ..` where an area is (get_children, get_derivation_tree,
+-- peek_notifications, write_reason), and the one inside the other where both are (drain_notifications). Two results that keep a contract on
+-- one input are therefore equal, in answer, memory and area.
 use mathlib.Core.List.{List}
 use mathlib.Core.Path.{_≡_, sym, ap, _∙_}
 use Prim.Native.Nat.{ℕ}
-use Rattle.steps.specs.Replies.{Left}
+use Rattle.steps.specs.Replies.{Left, Listed}
+use Rattle.steps.specs.declared.Reply.{Reply}
 
 -- A reading call: A is the type of its answer.
 pub one-answer : {A : Type 0} (out a b : A) → a ≡ out → b ≡ out → a ≡ b
@@ -18,3 +20,11 @@ pub one-result :
 one-result out a b left after p q =
     let same = one-answer out _ _ p q in
     (ap (λ (l : Left _). l .reply) same, ap (λ (l : Left _). l .memory) same)
+
+-- A call that is lent an area.
+pub one-list :
+    (out : Listed) (a b : Reply) (left after : List ℕ) → record { reply = a; area = left } ≡ out → record { reply = b; area = after } ≡ out
+    → (a ≡ b) × (left ≡ after)
+one-list out a b left after p q =
+    let same = one-answer out _ _ p q in
+    (ap (λ (l : Listed). l .reply) same, ap (λ (l : Listed). l .area) same)

@@ -1,0 +1,40 @@
+-- A choice by cases: what holds of either way holds of the choice. And an answer that is given exactly in its case.
+use mathlib.Core.Bool.{Bool, true, false, not}
+use mathlib.Core.Logic.{_↔_, _≢_}
+use mathlib.Core.Path.{_≡_, refl, ap}
+use Prim.Native.Nat.{ℕ, _≤_, _<_}
+use borrow.Author.Tests.{ltb-true, ltb-false, not-true, not-false}
+use lib.Dec.{ltb}
+use Rattle.answers.specs.Number.{numberOf}
+use Rattle.answers.specs.declared.Answer.{Answer}
+use Rattle.base.specs.Choose.{pick, when}
+
+module _ {A : Type 0} (P : A → Type 0) (a rest : A) where
+  pub pick-by-cases : (b : Bool) → (b ≡ true → P a) → (b ≡ false → P rest) → P (pick b a rest)
+  pick-by-cases true here later = here refl
+  pick-by-cases false here later = later refl
+
+  pub when-by-cases : (b : Bool) → (b ≡ true → P a) → (b ≡ false → P rest) → P (when b a rest)
+  unfolding when
+  when-by-cases = pick-by-cases
+
+  -- The test of most refusals: k is not below n.
+  pub unless-below : (k n : ℕ) → (n ≤ k → P a) → (k < n → P rest) → P (when (not (ltb k n)) a rest)
+  unless-below k n over under =
+      when-by-cases (not (ltb k n))
+      (λ e. over (ltb-false k n (not-true (ltb k n) e)))
+      (λ e. under (ltb-true k n (not-false (ltb k n) e)))
+
+-- What is stated where a test holds, and where it does not.
+abbrev pub stated : Bool → Type 0 → Type 0 → Type 0
+stated true a b = a
+stated false a b = b
+
+-- ---- an answer and its case
+
+-- The answer is given and its case holds; or it is another, and its case does not.
+pub given : {a b : Answer} {A : Type 0} → a ≡ b → A → (a ≡ b) ↔ A
+given e holds = (λ e. holds, λ h. e)
+
+pub not-given : (a b : Answer) {A : Type 0} → numberOf a ≢ numberOf b → ¬ A → (a ≡ b) ↔ A
+not-given a b other none = (λ e. absurd (other (ap numberOf e)), λ holds. absurd (none holds))
