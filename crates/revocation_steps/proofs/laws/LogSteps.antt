@@ -1,0 +1,129 @@
+-- Pairs join the log: of the memory only the log and the number of its pairs change, and a sound memory is kept where the pairs are coded,
+-- differ and are not logged yet. And a word of the head counts on, which no rule reads.
+use mathlib.Core.Path.{_≡_, refl, _∙_}
+use mathlib.Core.Logic.{_≢_}
+use mathlib.Core.Bool.{false}
+use mathlib.Core.List.{List}
+use Prim.Native.Nat.{ℕ, _+_, _%_, _^_, _≤_, _<_}
+use native.Mathlib.Omega.{arith}
+use lib.ListN.{length, getD, set, length-set}
+use lib.Seq.{getD-set-same, getD-set-other}
+use Rattle.base.specs.Distinct.{Differ}
+use Rattle.revocation.specs.Log.{logHas, appended}
+use Rattle.revocation.specs.LogLaws.{OneOf, length-appended, pairs-appended, differ-appended}
+use Rattle.revocation.specs.Sound.{Pairs}
+use Rattle.revocation.specs.Words.{pairAt}
+use Rattle.world.specs.Layout.{Valid, same}
+use Rattle.world.specs.Numbers.{nextOf, registeredOf, recycledOf, loggedOf, numbers-set}
+use Rattle.world.specs.Regions.{Region, head, space, registry, log, queue, lengthFor, view, onRegion}
+use Rattle.world.specs.Sound.{SoundAt}
+use Rattle.world.specs.Views.{Change, set-head, set-changes, length-view, length-kept, view-same, view-other, past-kept, head-kept, numbers-kept}
+use Rattle.world.specs.declared.Numbers.{Numbers}
+use Rattle.revocation_steps.specs.Revocation.{addStep, logStep}
+use Rattle.steps.proofs.laws.Ready.{head-fits}
+use Rattle.steps.proofs.laws.Kept.{Kept, set-view, registry-rules}
+use Rattle.steps.proofs.laws.RegistryChanged.{RegistryChanged, word-changed, changed-kept}
+use Rattle.revocation_steps.proofs.laws.SameHoldings.{SameHoldings, holdings-kept}
+
+-- ---- pairs join the log
+
+module _ (d : Numbers) (mem : List ℕ) (enough : lengthFor d ≤ length mem) (pairs : List ℕ)
+    (fits : loggedOf mem + length pairs ≤ d .pairs)
+  where
+    abbrev n : ℕ
+    n = loggedOf mem
+
+    abbrev lg : List ℕ
+    lg = view d log mem
+
+    abbrev between : List ℕ
+    between = onRegion d log (appended n pairs) mem
+
+    room : n + length pairs ≤ length lg
+    room = omega (arith, length-view d log mem tt enough)
+
+    in-log : Change d log (appended n pairs) mem
+    in-log = record { valid = tt; long = enough; kept = length-appended n pairs lg room }
+
+    long : lengthFor d ≤ length between
+    long = rw (length-kept d log (appended n pairs) mem in-log) enough
+
+    -- Any region but the head and the log stays.
+    other-view : (r : Region) → Valid d r → same head r ≡ false → same log r ≡ false → view d r (logStep d pairs mem) ≡ view d r mem
+    unfolding logStep
+    other-view r valid no-head no-log =
+        set-view d between long 13 (n + length pairs) (omega arith) r valid no-head
+        ∙ view-other d log (appended n pairs) mem in-log r valid no-log
+
+    pub log-step-word : (j : ℕ) → j < 16 → j ≢ 13 → getD (logStep d pairs mem) j 0 ≡ getD mem j 0
+    unfolding logStep
+    log-step-word j l other =
+        getD-set-other between 13 j (n + length pairs) 0 other ∙ head-kept d log (appended n pairs) mem in-log refl j l
+
+    pub log-step-holdings : SameHoldings d mem (logStep d pairs mem)
+    unfolding logStep
+    log-step-holdings = record {
+      numbers = numbers-set between 13 (n + length pairs) (omega arith) ∙ numbers-kept d log (appended n pairs) mem in-log refl;
+      same-length = length-set between 13 (n + length pairs) ∙ length-kept d log (appended n pairs) mem in-log;
+      past =
+          rw (set-head d between 13 (n + length pairs) (omega arith))
+          (past-kept d head (λ ws. set ws 13 (n + length pairs)) between (set-changes d head between 13 (n + length pairs) tt long)
+          ∙ past-kept d log (appended n pairs) mem in-log);
+      same-word = λ j l other. log-step-word j (omega arith) (λ e. omega arith);
+      same-registry = other-view registry tt refl refl;
+      same-space = λ s l. other-view (space s) l refl refl;
+    }
+
+    pub log-step-queue : (q : ℕ) → q < d .queues → view d (queue q) (logStep d pairs mem) ≡ view d (queue q) mem
+    log-step-queue q l = other-view (queue q) l refl refl
+
+    pub log-step-logged : loggedOf (logStep d pairs mem) ≡ loggedOf mem + length pairs
+    unfolding logStep
+    log-step-logged = getD-set-same between 13 (n + length pairs) 0 (omega (arith, long, head-fits d))
+
+    pub log-step-log : view d log (logStep d pairs mem) ≡ appended (loggedOf mem) pairs (view d log mem)
+    unfolding logStep
+    log-step-log =
+        set-view d between long 13 (n + length pairs) (omega arith) log tt refl ∙ view-same d log (appended n pairs) mem in-log
+
+module _ (d : Numbers) (mem : List ℕ) (sound : SoundAt d mem) (pairs : List ℕ) (fits : loggedOf mem + length pairs ≤ d .pairs) where
+  same-queue : (q : ℕ) → q < d .queues → view d (queue q) (logStep d pairs mem) ≡ view d (queue q) mem
+  same-queue = log-step-queue d mem (sound .long-enough) pairs fits
+
+  pub log-step-kept :
+      Pairs (length pairs) (pairAt pairs) → Differ (length pairs) (pairAt pairs)
+      → ((pair : ℕ) → OneOf pairs pair → logHas (loggedOf mem) (view d log mem) pair ≡ false) → Kept d mem (logStep d pairs mem)
+  log-step-kept coded differ absent =
+      let logged = log-step-logged d mem (sound .long-enough) pairs fits in
+      let new-log = log-step-log d mem (sound .long-enough) pairs fits in
+      let space-left = room d mem (sound .long-enough) pairs fits in
+      holdings-kept d mem sound (logStep d pairs mem) (log-step-holdings d mem (sound .long-enough) pairs fits)
+      (record {
+        fit = rw logged fits;
+        coded = rw (logged, new-log) (pairs-appended _ pairs (view d log mem) space-left (sound .pairs-coded) coded);
+        differ = rw (logged, new-log) (differ-appended _ pairs (view d log mem) space-left (sound .pairs-differ) differ absent);
+      })
+      (record {
+        each = λ q l some.
+            rw (same-queue q l) (sound .queues q l (rw (same-queue q l) at some));
+        differ = λ j l i u a b e.
+            let first-queue = same-queue i (omega arith) in
+            let second-queue = same-queue j l in
+            sound .pids-differ j l i u (rw first-queue at a) (rw second-queue at b) (rw (first-queue, second-queue) at e);
+      })
+
+-- ---- the epoch or a statistic counts
+
+pub add-step :
+    (d : Numbers) (mem : List ℕ) → lengthFor d ≤ length mem → (i k : ℕ) → 6 ≤ i → i < 11
+    → RegistryChanged d (view d registry mem) i ((getD mem i 0 + k) % 2 ^ 64) mem (addStep i k mem)
+unfolding addStep
+add-step d mem enough i k low high = word-changed d mem enough i ((getD mem i 0 + k) % 2 ^ 64) (omega arith) (omega arith)
+
+pub add-step-kept : (d : Numbers) (mem : List ℕ) → SoundAt d mem → (i k : ℕ) → 6 ≤ i → i < 11 → Kept d mem (addStep i k mem)
+add-step-kept d mem sound i k low high =
+    let changed = add-step d mem (sound .long-enough) i k low high in
+    changed-kept d mem sound (view d registry mem) i _ (addStep i k mem) changed (registeredOf mem) (recycledOf mem) (nextOf mem)
+    (changed .same-word 11 (omega arith) (omega arith)) (changed .same-word 12 (omega arith) (omega arith))
+    (changed .same-word 5 (omega arith) (omega arith)) (sound .registered-fit) (sound .recycled-fit) (sound .next-low)
+    (sound .next-high) (registry-rules d mem sound)

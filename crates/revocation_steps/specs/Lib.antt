@@ -1,0 +1,2 @@
+-- What the contracts of `revocation_steps` cite.
+pub mod Revocation
