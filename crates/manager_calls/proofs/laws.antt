@@ -1,5 +1,4 @@
 -- Laws of the calls of the manager, from their definitions alone.
-pub mod Cases
 pub mod SameRegistered
 pub mod SameIds
 pub mod Ways

@@ -17,12 +17,12 @@ use Rattle.steps.specs.Steps.{spaceOf, takenId}
 use Rattle.steps.specs.declared.Reply.{Reply}
 use Rattle.steps.specs.declared.Taken.the-variants.{Id, Exhausted}
 use Rattle.steps.proofs.TakingIds.{takes-recycled, takes-next, takes-none}
+use Rattle.steps.proofs.laws.Cases.{stated}
 use Rattle.steps.proofs.laws.Told.{Told}
 use Rattle.world.specs.Numbers.{numbersOf, nextOf, registeredOf, recycledOf}
 use Rattle.world.specs.Sound.{Sound}
 use Rattle.world.specs.declared.Numbers.{Numbers}
 use Rattle.manager_calls.specs.Calls.{createOut}
-use Rattle.manager_calls.proofs.laws.Cases.{stated}
 use Rattle.manager_calls.proofs.laws.Created as create
 
 -- No id is left exactly where none is recycled and next is 2^48.

@@ -16,6 +16,7 @@ use Rattle.steps.specs.Replies.{Left}
 use Rattle.steps.specs.Steps.{spaceOf, takenId, childrenOf}
 use Rattle.steps.specs.declared.Reply.{Reply}
 use Rattle.steps.specs.declared.Taken.the-variants.{Exhausted}
+use Rattle.steps.proofs.laws.Cases.{stated}
 use Rattle.table.specs.declared.Got.{Got}
 use Rattle.table.specs.declared.Got.the-variants.{Entry, Nothing}
 use Rattle.token.specs.Rights.{holds}
@@ -26,7 +27,6 @@ use Rattle.world.specs.Sound.{Sound}
 use Rattle.world.specs.declared.Numbers.{Numbers}
 use Rattle.manager_calls.specs.Calls.{delegateOut}
 use Rattle.manager_calls.specs.Delegation.{current}
-use Rattle.manager_calls.proofs.laws.Cases.{stated}
 use Rattle.manager_calls.proofs.laws.Delegated as delegate
 
 abbrev answerOf : Left Reply → Answer

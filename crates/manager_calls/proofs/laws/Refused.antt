@@ -16,6 +16,7 @@ use Rattle.space.specs.Lookup.{lookedUp}
 use Rattle.steps.specs.Replies.{Left, Listed}
 use Rattle.steps.specs.Steps.{spaceOf, lookupStep, placeIn, childrenOf}
 use Rattle.steps.specs.declared.Reply.{Reply}
+use Rattle.steps.proofs.laws.Cases.{when-by-cases}
 use Rattle.steps.proofs.laws.Entered.{world-by-cases}
 use Rattle.steps.proofs.laws.Told.{Told, Inner, told, world-told, inner, inner-0}
 use Rattle.token.specs.Token.{idOf}
@@ -25,7 +26,6 @@ use Rattle.world.specs.declared.Numbers.{Numbers}
 use Rattle.manager_calls.specs.Calls.{deleteOut, grants, validIn, checkOut, isValidOut, statsOut, childrenOut, treeStatsOut, censusOut}
 use Rattle.manager_calls.specs.declared.StatsReply.{StatsReply}
 use Rattle.manager_calls.specs.declared.TreeReply.{TreeReply}
-use Rattle.manager_calls.proofs.laws.Cases.{when-by-cases}
 use Rattle.manager_calls.proofs.laws.Ways.{delete-by-cases, check-by-cases}
 
 abbrev answerOf : Left Reply → Answer

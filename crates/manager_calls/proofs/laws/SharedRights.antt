@@ -13,6 +13,7 @@ use Rattle.space.proofs.laws.Counted.{used, found-again}
 use Rattle.steps.specs.Replies.{Left}
 use Rattle.steps.specs.Steps.{spaceOf, lookupStep}
 use Rattle.steps.specs.declared.Reply.{Reply}
+use Rattle.steps.proofs.laws.Cases.{pick-by-cases}
 use Rattle.steps.proofs.laws.OnlySpace.{lookup-step}
 use Rattle.steps.proofs.laws.Ready.{space-of}
 use Rattle.steps.proofs.laws.SpaceSteps.{lookup-step-kept}
@@ -27,7 +28,6 @@ use Rattle.world.specs.Sound.{ids, SoundAt}
 use Rattle.world.specs.declared.Numbers.{Numbers}
 use Rattle.manager_calls.specs.Calls.{delegateOut}
 use Rattle.manager_calls.specs.Delegation.{tokenOf, heldWith, openChild, Offered, offeredFrom}
-use Rattle.manager_calls.proofs.laws.Cases.{pick-by-cases}
 use Rattle.manager_calls.proofs.laws.Delegated as delegate
 use Rattle.manager_calls.proofs.laws.Roomed.{parentIn}
 use Rattle.manager_calls.proofs.laws.Standing.{delegated-stands}

@@ -26,6 +26,7 @@ use Rattle.steps.specs.Steps.{spaceOf, lookupStep, newEntry, insertStep, takenI
 use Rattle.steps.specs.declared.Reply.{Reply}
 use Rattle.steps.specs.declared.Taken.{Taken}
 use Rattle.steps.specs.declared.Taken.the-variants.{Id, Exhausted}
+use Rattle.steps.proofs.laws.Cases.{pick-by-cases, when-by-cases, unless-below}
 use Rattle.steps.proofs.laws.Called.{Keeps, on-space}
 use Rattle.steps.proofs.laws.Kept.{Kept, kept-refl, kept-trans}
 use Rattle.steps.proofs.laws.OnlySpace.{OnlySpace, insert-step}
@@ -44,7 +45,6 @@ use Rattle.world.specs.Views.{length-view}
 use Rattle.world.specs.declared.Numbers.{Numbers}
 use Rattle.manager_calls.specs.Calls.{createOut, delegateOut, deleteOut, checkOut}
 use Rattle.manager_calls.specs.Delegation.{admitted, created, openChild, heldWith, Offered, offeredFrom, offered, current, derivedWith, derived, withId, withRoom, offering, granting, tokenOf}
-use Rattle.manager_calls.proofs.laws.Cases.{pick-by-cases, when-by-cases, unless-below}
 use Rattle.manager_calls.proofs.laws.Ways.{delete-by-cases, check-by-cases}
 use Rattle.manager_calls.proofs.laws.SameIds.{list-ids}
 use Rattle.manager_calls.proofs.laws.SameRegistered.{take-same, same-place, same-children}

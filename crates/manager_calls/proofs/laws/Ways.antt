@@ -11,13 +11,13 @@ use Rattle.space.specs.Lookup.{lookedUp}
 use Rattle.steps.specs.Replies.{Left, replied, done, refuse}
 use Rattle.steps.specs.Steps.{spaceOf, lookupStep, placeIn, unregisterStep, recycleStep, countStep}
 use Rattle.steps.specs.declared.Reply.{Reply}
+use Rattle.steps.proofs.laws.Cases.{when-by-cases, unless-below}
 use Rattle.steps.proofs.laws.Entered.{world-by-cases, space-by-cases}
 use Rattle.token.specs.Token.{idOf}
 use Rattle.world.specs.Numbers.{numbersOf, registeredOf, recycledOf}
 use Rattle.world.specs.Sound.{Sound}
 use Rattle.world.specs.declared.Numbers.{Numbers}
 use Rattle.manager_calls.specs.Calls.{deleteOut, grants, validIn, checkOut}
-use Rattle.manager_calls.proofs.laws.Cases.{when-by-cases, unless-below}
 use Rattle.manager_calls.proofs.laws.SameRegistered.{lookup-same, same-valid}
 
 -- ---- delete
