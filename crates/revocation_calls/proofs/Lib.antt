@@ -1,0 +1,4 @@
+-- What the proofs of `revocation_calls` share.
+pub mod laws
+pub mod Pairs
+pub mod Noticing

@@ -1,0 +1,125 @@
+-- A counted lookup changes nothing that a revocation reads: this answers as it would have answered before the lookup.
+use mathlib.Core.Bool.{Bool, true, false}
+use mathlib.Core.List.{List}
+use mathlib.Core.Path.{_≡_, refl, ap, ap₂, _∙_}
+use Prim.Native.Nat.{ℕ, _<_}
+use native.Mathlib.Omega.{arith}
+use lib.Dec.{eqb, ltb}
+use lib.ListN.{getD}
+use Rattle.answers.specs.declared.Answer.the-variants.{LogFull, PidTableFull}
+use Rattle.base.specs.Choose.{pick, when}
+use Rattle.registry.specs.Words.{revoked}
+use Rattle.revocation_steps.specs.Revocation.{freeQueues, cascadeQueues}
+use Rattle.revocation_steps.proofs.laws.SameQueues.{same-free-queues, same-new-queues}
+use Rattle.space.specs.Lookup.{counted}
+use Rattle.space.proofs.laws.Kept.{lookup-keeps}
+use Rattle.steps.specs.Replies.{Left, done, refusal}
+use Rattle.steps.specs.Steps.{lookupStep, placeIn}
+use Rattle.steps.specs.declared.Reply.{Reply}
+use Rattle.steps.proofs.laws.Ready.{space-of}
+use Rattle.steps.proofs.laws.Stepped.{space-change}
+use Rattle.token.specs.Token.{idOf}
+use Rattle.world.specs.Layout.{Valid, same}
+use Rattle.world.specs.Numbers.{registeredOf, loggedOf}
+use Rattle.world.specs.Regions.{Region, space, registry, log, queue, view}
+use Rattle.world.specs.Sound.{states, SoundAt}
+use Rattle.world.specs.Views.{Change, view-other, head-kept}
+use Rattle.world.specs.declared.Numbers.{Numbers}
+use Rattle.revocation_calls.specs.Revoking.{revoking, listing, revokingToken}
+use Rattle.revocation_calls.proofs.laws.Ways.{pairsAfter, pairsWith}
+
+-- ---- what a revocation answers, by its tests
+
+abbrev cascadeReply : Bool → Bool → Bool → Reply
+cascadeReply already full crowded =
+    when already (done 0) (when full (refusal LogFull) (when crowded (refusal PidTableFull) (done 0)))
+
+abbrev listReply : Bool → Reply
+listReply full = when full (refusal LogFull) (done 0)
+
+picked-reply : (b : Bool) (x y : Left Reply) → pick b x y .reply ≡ pick b (x .reply) (y .reply)
+picked-reply true x y = refl
+picked-reply false x y = refl
+
+reply-of : (b : Bool) (x y : Left Reply) → when b x y .reply ≡ when b (x .reply) (y .reply)
+unfolding when
+reply-of b x y = picked-reply b x y
+
+module _ (d : Numbers) (mem : List ℕ) where
+  revoking-replies :
+      (r time : ℕ) (listed : List ℕ)
+      → revoking d r time listed mem .reply
+      ≡ cascadeReply (eqb (revoked (states d mem r)) 1) (ltb (d .pairs) (pairsAfter d mem r))
+      (ltb (freeQueues d mem) (cascadeQueues d mem r listed))
+  unfolding revoking
+  revoking-replies r time listed =
+      reply-of _ _ _ ∙ ap (when _ (done 0)) (reply-of _ _ _ ∙ ap (when _ (refusal LogFull)) (reply-of _ _ _))
+
+  listing-replies : (token : ℕ) → listing d token mem .reply ≡ listReply (ltb (d .pairs) (pairsWith d mem token))
+  unfolding listing
+  listing-replies token = reply-of _ _ _
+
+  token-replies :
+      (token time : ℕ) (listed : List ℕ)
+      → revokingToken d token time listed mem .reply
+      ≡ pick (ltb (placeIn d mem (idOf token)) (registeredOf mem))
+      (revoking d (placeIn d mem (idOf token)) time listed mem .reply) (listing d token mem .reply)
+  unfolding revokingToken
+  token-replies token time listed = picked-reply (ltb (placeIn d mem (idOf token)) (registeredOf mem)) _ _
+
+-- ---- after a lookup
+
+module _ (d : Numbers) (mem : List ℕ) (sound : SoundAt d mem) (s : ℕ) (there : s < d .spaces) (key : ℕ) where
+  abbrev after : List ℕ
+  after = lookupStep d s key mem
+
+  in-space : Change d (space s) (λ sp. counted sp key) mem
+  in-space = space-change d s (λ sp. counted sp key) mem sound there (lookup-keeps (d .most) _ (space-of d mem sound s there) key)
+
+  same-view : (r : Region) → Valid d r → same (space s) r ≡ false → view d r after ≡ view d r mem
+  unfolding lookupStep
+  same-view r valid other = view-other d (space s) (λ sp. counted sp key) mem in-space r valid other
+
+  same-word : (i : ℕ) → i < 16 → getD after i 0 ≡ getD mem i 0
+  unfolding lookupStep
+  same-word i l = head-kept d (space s) (λ sp. counted sp key) mem in-space refl i l
+
+  pub same-queues : (q : ℕ) → q < d .queues → view d (queue q) (lookupStep d s key mem) ≡ view d (queue q) mem
+  same-queues q l = same-view (queue q) l refl
+
+  pub same-registered : registeredOf (lookupStep d s key mem) ≡ registeredOf mem
+  same-registered = same-word 11 (omega arith)
+
+  same-logged : loggedOf after ≡ loggedOf mem
+  same-logged = same-word 13 (omega arith)
+
+  pub same-registry : view d registry (lookupStep d s key mem) ≡ view d registry mem
+  same-registry = same-view registry tt refl
+
+  same-log : view d log after ≡ view d log mem
+  same-log = same-view log tt refl
+
+  same-revoking : (r time : ℕ) (listed : List ℕ) → revoking d r time listed after .reply ≡ revoking d r time listed mem .reply
+  same-revoking r time listed =
+      rw (revoking-replies d after r time listed, revoking-replies d mem r time listed)
+      (rw (
+        same-registered,
+        same-logged,
+        same-registry,
+        same-log,
+        same-free-queues d mem after same-queues,
+        same-new-queues d mem after same-queues listed,
+      ) refl)
+
+  same-listing : (token : ℕ) → listing d token after .reply ≡ listing d token mem .reply
+  same-listing token =
+      rw (listing-replies d after token, listing-replies d mem token) (rw (same-logged, same-log) refl)
+
+  pub counted-answers :
+      (token time : ℕ) (listed : List ℕ)
+      → revokingToken d token time listed (lookupStep d s key mem) .reply ≡ revokingToken d token time listed mem .reply
+  counted-answers token time listed =
+      let r : ℕ = placeIn d mem (idOf token) in
+      rw (token-replies d after token time listed, token-replies d mem token time listed)
+      (rw (same-registered, same-registry)
+      (ap₂ (pick (ltb r (registeredOf mem))) (same-revoking r time listed) (same-listing token)))

@@ -1,0 +1,127 @@
+-- When each answer of the calls that list and of those for notifications is given, on a sound memory: 21 exactly for a field out of its
+-- range or an area too short, 25 exactly where a pid has no queue and no place is free, else 0.
+use mathlib.Core.List.{List}
+use mathlib.Core.Logic.{_↔_, _⊎_, inl, inr, ⊎-elim}
+use mathlib.Core.Path.{_≡_, refl}
+use Prim.Native.Nat.{ℕ, _^_, _≤_, _<_}
+use native.Mathlib.Omega.{arith}
+use borrow.Author.Tests.{ltb-true, ltb-false, leb-true, leb-false}
+use lib.Dec.{leb, ltb}
+use lib.ListN.{length}
+use Rattle.answers.specs.declared.Answer.{Answer}
+use Rattle.answers.specs.declared.Answer.the-variants.{Done, BadField, PidTableFull}
+use Rattle.revocation.specs.Reason.{reasonOf, nameOf}
+use Rattle.revocation_steps.specs.Revocation.{queueFor}
+use Rattle.steps.specs.Replies.{Left, Listed}
+use Rattle.steps.specs.Steps.{placeIn}
+use Rattle.steps.specs.declared.Reply.{Reply}
+use Rattle.steps.proofs.laws.Cases.{when-by-cases, given, not-given}
+use Rattle.steps.proofs.laws.Entered.{world-by-cases}
+use Rattle.world.specs.Numbers.{numbersOf}
+use Rattle.world.specs.Sound.{Sound}
+use Rattle.world.specs.declared.Numbers.{Numbers}
+use Rattle.revocation_calls.specs.Calls.{listedIn, descendants, descendantsOut, notifyOut, noticesFor, peekOut, drainOut, reasonOut}
+use Rattle.revocation_calls.proofs.laws.NoticeWays.{NoPlace, HasPlace, TooShort, notify-by-cases, peek-by-cases, drain-by-cases}
+
+-- ---- lists
+
+-- The area is too short.
+listed-told-21 : (xs area : List ℕ) → (listedIn xs area .reply .answer ≡ BadField) ↔ (length area < length xs)
+unfolding listedIn
+listed-told-21 xs area =
+    when-by-cases (λ (l : Listed). (l .reply .answer ≡ BadField) ↔ (length area < length xs)) _ _ (ltb (length area) (length xs))
+    (λ e. given refl (ltb-true _ _ e))
+    (λ e. let fits = ltb-false (length area) (length xs) e in not-given Done BadField (λ e. omega arith) (λ short. omega arith))
+
+pub reason-told-21 :
+    (reason : ℕ) (area : List ℕ)
+    → (reasonOut reason area .reply .answer ≡ BadField) ↔ ((3 < reason) ⊎ (length area < length (nameOf (reasonOf reason))))
+unfolding reasonOut
+reason-told-21 reason area =
+    when-by-cases (λ (l : Listed). (l .reply .answer ≡ BadField) ↔ Bad) _ _ (ltb 3 reason)
+    (λ e. given refl (inl (ltb-true 3 reason e)))
+    (λ e.
+    let coded = ltb-false 3 reason e in
+    let told = listed-told-21 (nameOf (reasonOf reason)) area in
+    (λ e. inr (told .0 e), ⊎-elim (λ over. absurd (omega arith)) (λ short. told .1 short)))
+  where
+    Bad : Type 0
+    Bad = (3 < reason) ⊎ (length area < length (nameOf (reasonOf reason)))
+
+module _ (mem : List ℕ) (sound : Sound mem) where
+  abbrev d : Numbers
+  d = numbersOf mem
+
+  unsound : {A : Type 0} → ¬ Sound mem → A
+  unsound bad = absurd (bad sound)
+
+  pub descendants-told-21 :
+      (id : ℕ) (area : List ℕ)
+      → (descendantsOut mem id area .reply .answer ≡ BadField)
+      ↔ ((2 ^ 48 ≤ id) ⊎ (length area < length (descendants (numbersOf mem) mem (placeIn (numbersOf mem) mem id))))
+  unfolding descendantsOut
+  descendants-told-21 id area =
+      world-by-cases Said _ mem _ unsound
+      (λ sound.
+      when-by-cases Said _ _ (leb (2 ^ 48) id)
+      (λ e. given refl (inl (leb-true (2 ^ 48) id e)))
+      (λ e.
+      let fits = leb-false (2 ^ 48) id e in
+      let told = listed-told-21 (descendants d mem (placeIn d mem id)) area in
+      (λ e. inr (told .0 e), ⊎-elim (λ over. absurd (omega arith)) (λ short. told .1 short))))
+    where
+      Said : Listed → Type 0
+      Said l =
+          (l .reply .answer ≡ BadField)
+          ↔ ((2 ^ 48 ≤ id) ⊎ (length area < length (descendants (numbersOf mem) mem (placeIn (numbersOf mem) mem id))))
+
+  -- ---- notifications
+
+  module _ (pid : ℕ) (area : List ℕ) where
+    pub peek-told-21 :
+        (peekOut mem pid area .reply .answer ≡ BadField)
+        ↔ (length area < length (noticesFor (numbersOf mem) mem (queueFor (numbersOf mem) mem pid)))
+    peek-told-21 =
+        peek-by-cases mem pid area (λ (l : Listed). (l .reply .answer ≡ BadField) ↔ TooShort mem pid area) unsound
+        (λ sound short. given refl short)
+        (λ sound fits. not-given Done BadField (λ e. omega arith) (λ short. omega arith))
+
+    pub drain-told-21 :
+        (drainOut mem pid area .reply .reply .answer ≡ BadField)
+        ↔ (length area < length (noticesFor (numbersOf mem) mem (queueFor (numbersOf mem) mem pid)))
+    drain-told-21 =
+        drain-by-cases mem pid area (λ (out : Left Listed). (out .reply .reply .answer ≡ BadField) ↔ TooShort mem pid area) unsound
+        (λ sound short. given refl short)
+        (λ sound fits. not-given Done BadField (λ e. omega arith) (λ short. omega arith))
+
+  module _ (pid id reason time : ℕ) where
+    abbrev Exactly : Answer → Type 0 → Left Reply → Type 0
+    Exactly a A out = (out .reply .answer ≡ a) ↔ A
+
+    pub notify-told-21 : (notifyOut mem pid id reason time .reply .answer ≡ BadField) ↔ ((2 ^ 48 ≤ id) ⊎ (3 < reason))
+    notify-told-21 =
+        notify-by-cases mem pid id reason time (Exactly BadField ((2 ^ 48 ≤ id) ⊎ (3 < reason))) unsound
+        (λ sound over. given refl (inl over))
+        (λ sound fits over. given refl (inr over))
+        (λ sound fits coded full.
+        not-given PidTableFull BadField (λ e. omega arith) (⊎-elim (λ over. omega arith) (λ over. omega arith)))
+        (λ sound fits coded room. not-given Done BadField (λ e. omega arith) (⊎-elim (λ over. omega arith) (λ over. omega arith)))
+
+    module _ (fits : id < 2 ^ 48) (coded : reason ≤ 3) where
+      pub notify-told-25 : (notifyOut mem pid id reason time .reply .answer ≡ PidTableFull) ↔ NoPlace mem pid
+      notify-told-25 =
+          notify-by-cases mem pid id reason time (Exactly PidTableFull (NoPlace mem pid)) unsound
+          (λ sound over. absurd (omega arith))
+          (λ sound fits over. absurd (omega arith))
+          (λ sound fits coded full. given refl full)
+          (λ sound fits coded room.
+          not-given Done PidTableFull (λ e. omega arith) (λ (none, full). ⊎-elim (λ l. omega arith) (λ l. omega arith) room))
+
+      pub notify-told-0 : (notifyOut mem pid id reason time .reply .answer ≡ Done) ↔ HasPlace mem pid
+      notify-told-0 =
+          notify-by-cases mem pid id reason time (Exactly Done (HasPlace mem pid)) unsound
+          (λ sound over. absurd (omega arith))
+          (λ sound fits over. absurd (omega arith))
+          (λ sound fits coded (none, full).
+          not-given PidTableFull Done (λ e. omega arith) (⊎-elim (λ l. omega arith) (λ l. omega arith)))
+          (λ sound fits coded room. given refl room)

@@ -1,0 +1,106 @@
+-- The ways through the calls for notifications: what holds of each ending holds of the whole.
+use mathlib.Core.Bool.{Bool, true, false, not}
+use mathlib.Core.List.{List}
+use mathlib.Core.Logic.{_⊎_, inl, inr, ⊎-elim}
+use mathlib.Core.Path.{_≡_, refl, sym}
+use Prim.Native.Nat.{ℕ, _^_, _≤_, _<_}
+use borrow.Author.Tests.{ltb-true, ltb-false, leb-true, leb-false, not-true}
+use lib.Dec.{leb, ltb}
+use lib.ListN.{length}
+use Rattle.answers.specs.declared.Answer.the-variants.{BadField, PidTableFull, BadWorld}
+use Rattle.base.specs.Choose.{both, both-left, both-right}
+use Rattle.revocation_steps.specs.Revocation.{queueFor, freeQueue, notifyStep}
+use Rattle.steps.specs.Replies.{Left, Listed, done, refusal, refuse}
+use Rattle.steps.specs.declared.Reply.{Reply}
+use Rattle.steps.proofs.laws.Cases.{when-by-cases}
+use Rattle.steps.proofs.laws.Entered.{world-by-cases}
+use Rattle.world.specs.Numbers.{numbersOf}
+use Rattle.world.specs.Sound.{Sound}
+use Rattle.world.specs.declared.Numbers.{Numbers}
+use Rattle.revocation_calls.specs.Calls.{notifyOut, noticesFor, peeked, peekOut, without, drainOut}
+
+-- ---- a notice for a pid
+
+-- The pid has no queue and no place is free; or one of the two.
+abbrev pub NoPlace : List ℕ → ℕ → Type 0
+NoPlace mem pid =
+    (numbersOf mem .queues ≤ queueFor (numbersOf mem) mem pid) × (numbersOf mem .queues ≤ freeQueue (numbersOf mem) mem)
+
+abbrev pub HasPlace : List ℕ → ℕ → Type 0
+HasPlace mem pid =
+    (queueFor (numbersOf mem) mem pid < numbersOf mem .queues) ⊎ (freeQueue (numbersOf mem) mem < numbersOf mem .queues)
+
+either : (a b : Bool) → both (not a) (not b) ≡ false → (a ≡ true) ⊎ (b ≡ true)
+either true b e = inl refl
+either false true e = inr refl
+either false false e = inl (sym e)
+
+module _ (mem : List ℕ) (pid id reason time : ℕ) (P : Left Reply → Type 0) where
+  abbrev d : Numbers
+  d = numbersOf mem
+
+  pub notify-by-cases :
+      (¬ Sound mem → P (refuse mem BadWorld)) → (Sound mem → 2 ^ 48 ≤ id → P (refuse mem BadField))
+      → (Sound mem → id < 2 ^ 48 → 3 < reason → P (refuse mem BadField))
+      → (Sound mem → id < 2 ^ 48 → reason ≤ 3 → NoPlace mem pid → P (refuse mem PidTableFull))
+      → (Sound mem → id < 2 ^ 48 → reason ≤ 3 → HasPlace mem pid
+      → P (record { reply = done 0; memory = notifyStep (numbersOf mem) pid id time reason mem }))
+      → P (notifyOut mem pid id reason time)
+  unfolding notifyOut
+  notify-by-cases bad over uncoded full goes =
+      let q : ℕ = queueFor d mem pid in
+      let f : ℕ = freeQueue d mem in
+      let n : ℕ = d .queues in
+      world-by-cases P (refuse mem) mem _ bad
+      (λ sound.
+      when-by-cases P _ _ (leb (2 ^ 48) id) (λ e. over sound (leb-true _ _ e))
+      (λ e.
+      let fits : id < 2 ^ 48 = leb-false (2 ^ 48) id e in
+      when-by-cases P _ _ (ltb 3 reason) (λ e. uncoded sound fits (ltb-true _ _ e))
+      (λ e.
+      let coded : reason ≤ 3 = ltb-false 3 reason e in
+      when-by-cases P _ _ (both (not (ltb q n)) (not (ltb f n)))
+      (λ e.
+      full sound fits coded
+      (ltb-false q n (not-true _ (both-left _ _ e)), ltb-false f n (not-true _ (both-right (not (ltb q n)) _ e))))
+      (λ e.
+      goes sound fits coded
+      (⊎-elim (λ h. inl (ltb-true q n h)) (λ h. inr (ltb-true f n h)) (either (ltb q n) (ltb f n) e))))))
+
+-- ---- the notices of a pid
+
+-- The area is too short for them.
+abbrev pub TooShort : List ℕ → ℕ → List ℕ → Type 0
+TooShort mem pid area = length area < length (noticesFor (numbersOf mem) mem (queueFor (numbersOf mem) mem pid))
+
+abbrev pub LongEnough : List ℕ → ℕ → List ℕ → Type 0
+LongEnough mem pid area = length (noticesFor (numbersOf mem) mem (queueFor (numbersOf mem) mem pid)) ≤ length area
+
+module _ (mem : List ℕ) (pid : ℕ) (area : List ℕ) where
+  abbrev words : ℕ
+  words = length (noticesFor (numbersOf mem) mem (queueFor (numbersOf mem) mem pid))
+
+  pub peek-by-cases :
+      (P : Listed → Type 0) → (¬ Sound mem → P (record { reply = refusal BadWorld; area = area }))
+      → (Sound mem → TooShort mem pid area → P (record { reply = refusal BadField; area = area }))
+      → (Sound mem → LongEnough mem pid area → P (peeked (numbersOf mem) mem (queueFor (numbersOf mem) mem pid) area))
+      → P (peekOut mem pid area)
+  unfolding peekOut
+  peek-by-cases P bad short goes =
+      world-by-cases P _ mem _ bad
+      (λ sound. when-by-cases P _ _ (ltb (length area) words) (λ e. short sound (ltb-true _ _ e)) (λ e. goes sound (ltb-false _ _ e)))
+
+  pub drain-by-cases :
+      (P : Left Listed → Type 0)
+      → (¬ Sound mem → P (record { reply = record { reply = refusal BadWorld; area = area }; memory = mem }))
+      → (Sound mem → TooShort mem pid area → P (record { reply = record { reply = refusal BadField; area = area }; memory = mem }))
+      → (Sound mem → LongEnough mem pid area
+      → P (record {
+        reply = peeked (numbersOf mem) mem (queueFor (numbersOf mem) mem pid) area;
+        memory = without (numbersOf mem) mem (queueFor (numbersOf mem) mem pid);
+      }))
+      → P (drainOut mem pid area)
+  unfolding drainOut
+  drain-by-cases P bad short goes =
+      world-by-cases P _ mem _ bad
+      (λ sound. when-by-cases P _ _ (ltb (length area) words) (λ e. short sound (ltb-true _ _ e)) (λ e. goes sound (ltb-false _ _ e)))

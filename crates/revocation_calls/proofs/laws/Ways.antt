@@ -1,0 +1,222 @@
+-- The ways through a revocation and through the calls that revoke: what holds of each ending holds of the whole.
+use mathlib.Core.Bool.{true, not}
+use mathlib.Core.List.{List, [], _∷_}
+use mathlib.Core.Logic.{_≢_, _⊎_, inl, inr, ⊎-elim}
+use mathlib.Core.Path.{_≡_, refl, sym, ap, _∙_}
+use Prim.Native.Nat.{ℕ, _+_, _^_, _≤_, _<_}
+use native.Mathlib.Omega.{arith}
+use borrow.Author.Tests.{ltb-true, ltb-false, eqb-true, eqb-false}
+use lib.Dec.{eqb, ltb}
+use lib.ListN.{length}
+use Rattle.answers.specs.Number.{numberOf}
+use Rattle.answers.specs.declared.Answer.{Answer}
+use Rattle.answers.specs.declared.Answer.the-variants.{Done, InvalidCapability, BadSpace, BadField, LogFull, PidTableFull, BadWorld}
+use Rattle.base.specs.Below.{one}
+use Rattle.base.specs.Choose.{when, when-no}
+use Rattle.registry.specs.Words.{revoked}
+use Rattle.revocation.specs.Log.{pairOf, absentOf}
+use Rattle.revocation_steps.specs.Revocation.{addStep, logOf, logStep, freeQueues, cascadePairs, cascadeQueues, revokeStep}
+use Rattle.space.specs.Lookup.{lookedUp}
+use Rattle.steps.specs.Replies.{Left, replied, done, refuse}
+use Rattle.steps.specs.Steps.{spaceOf, lookupStep, placeIn}
+use Rattle.steps.specs.declared.Reply.{Reply}
+use Rattle.steps.proofs.laws.Cases.{pick-by-cases, when-by-cases, unless-below}
+use Rattle.steps.proofs.laws.Entered.{world-by-cases, space-by-cases}
+use Rattle.table.specs.declared.CapabilityEntry.{CapabilityEntry}
+use Rattle.table.specs.declared.Got.the-variants.{Entry}
+use Rattle.token.specs.Rights.{holds}
+use Rattle.token.specs.Token.{idOf, generationOf}
+use Rattle.world.specs.Numbers.{numbersOf, registeredOf, loggedOf}
+use Rattle.world.specs.Sound.{states, Sound}
+use Rattle.world.specs.declared.Numbers.{Numbers}
+use Rattle.revocation_calls.specs.Calls.{revokeOut, revokeCapabilityOut, revokeHeldOut, revokeBatchOut}
+use Rattle.revocation_calls.specs.Revoking.{revoking, listing, revokingToken, revokingHeld, revokingEach}
+
+-- How many pairs the log has with those that a cascade from place r adds,
+abbrev pub pairsAfter : Numbers → List ℕ → ℕ → ℕ
+pairsAfter d mem r = loggedOf mem + length (cascadePairs d mem r)
+
+-- the pair of a token, if the log has it not, and how many pairs the log has with it.
+abbrev pub newPair : Numbers → List ℕ → ℕ → List ℕ
+newPair d mem token = absentOf (loggedOf mem) (logOf d mem) (pairOf (idOf token) (generationOf token) ∷ [])
+
+abbrev pub pairsWith : Numbers → List ℕ → ℕ → ℕ
+pairsWith d mem token = loggedOf mem + length (newPair d mem token)
+
+-- ---- from a registered place, from an id that is not registered, from any token
+
+module _ (d : Numbers) (mem : List ℕ) (P : Left Reply → Type 0) where
+  pub revoking-by-cases :
+      (r time : ℕ) (listed : List ℕ) → (revoked (states d mem r) ≡ 1 → P (record { reply = done 0; memory = mem }))
+      → (revoked (states d mem r) ≡ 0 → d .pairs < pairsAfter d mem r → P (refuse mem LogFull))
+      → (revoked (states d mem r) ≡ 0 → pairsAfter d mem r ≤ d .pairs → freeQueues d mem < cascadeQueues d mem r listed
+      → P (refuse mem PidTableFull))
+      → (revoked (states d mem r) ≡ 0 → pairsAfter d mem r ≤ d .pairs → cascadeQueues d mem r listed ≤ freeQueues d mem
+      → P (record { reply = done 0; memory = revokeStep d r time listed mem }))
+      → P (revoking d r time listed mem)
+  unfolding revoking
+  revoking-by-cases r time listed already full crowded goes =
+      let state : ℕ = states d mem r in
+      let free : ℕ = freeQueues d mem in
+      let needed : ℕ = cascadeQueues d mem r listed in
+      when-by-cases P _ _ (eqb (revoked state) 1) (λ e. already (eqb-true (revoked state) 1 e))
+      (λ e.
+      let unrevoked : revoked state ≡ 0 = omega (arith, eqb-false (revoked state) 1 e) in
+      when-by-cases P _ _ (ltb (d .pairs) (pairsAfter d mem r)) (λ e. full unrevoked (ltb-true _ _ e))
+      (λ fits.
+      when-by-cases P _ _ (ltb free needed) (λ e. crowded unrevoked (ltb-false _ _ fits) (ltb-true free needed e))
+      (λ e. goes unrevoked (ltb-false _ _ fits) (ltb-false free needed e))))
+
+  pub listing-by-cases :
+      (token : ℕ) → (d .pairs < pairsWith d mem token → P (refuse mem LogFull))
+      → (pairsWith d mem token ≤ d .pairs → P (record { reply = done 0; memory = addStep 6 1 (logStep d (newPair d mem token) mem) }))
+      → P (listing d token mem)
+  unfolding listing
+  listing-by-cases token full goes =
+      when-by-cases P _ _ (ltb (d .pairs) (pairsWith d mem token)) (λ e. full (ltb-true _ _ e)) (λ e. goes (ltb-false _ _ e))
+
+  pub revoking-token-by-cases :
+      (token time : ℕ) (listed : List ℕ)
+      → (placeIn d mem (idOf token) < registeredOf mem → P (revoking d (placeIn d mem (idOf token)) time listed mem))
+      → (registeredOf mem ≤ placeIn d mem (idOf token) → P (listing d token mem)) → P (revokingToken d token time listed mem)
+  unfolding revokingToken
+  revoking-token-by-cases token time listed inside outside =
+      let r : ℕ = placeIn d mem (idOf token) in
+      pick-by-cases P _ _ (ltb r (registeredOf mem)) (λ e. inside (ltb-true r _ e)) (λ e. outside (ltb-false r _ e))
+
+-- ---- what a revocation answers: 0, 24 or 25
+
+abbrev pub Own : Answer → Type 0
+Own a = (numberOf a ≡ 0) ⊎ ((numberOf a ≡ 24) ⊎ (numberOf a ≡ 25))
+
+pub own-not : (a : Answer) → Own a → (k : ℕ) → k ≢ 0 → k ≢ 24 → k ≢ 25 → numberOf a ≢ k
+own-not a own k not-0 not-24 not-25 e =
+    ⊎-elim (λ h. not-0 (sym e ∙ h)) (⊎-elim (λ h. not-24 (sym e ∙ h)) (λ h. not-25 (sym e ∙ h))) own
+
+module _ (d : Numbers) (mem : List ℕ) where
+  abbrev Answered : Left Reply → Type 0
+  Answered out = Own (out .reply .answer)
+
+  pub revoking-own : (r time : ℕ) (listed : List ℕ) → Own (revoking d r time listed mem .reply .answer)
+  revoking-own r time listed =
+      revoking-by-cases d mem Answered r time listed (λ already. inl refl) (λ un full. inr (inl refl))
+      (λ un fits crowded. inr (inr refl)) (λ un fits room. inl refl)
+
+  pub revoking-token-own : (token time : ℕ) (listed : List ℕ) → Own (revokingToken d token time listed mem .reply .answer)
+  revoking-token-own token time listed =
+      revoking-token-by-cases d mem Answered token time listed
+      (λ inside. revoking-own (placeIn d mem (idOf token)) time listed)
+      (λ outside. listing-by-cases d mem Answered token (λ full. inr (inl refl)) (λ fits. inl refl))
+
+-- A batch answers 0.
+pub each-done :
+    (d : Numbers) (tokens : List ℕ) (time : ℕ) (listed : List ℕ) (gave : ℕ) (mem : List ℕ)
+    → revokingEach d tokens time listed gave mem .reply .answer ≡ Done
+unfolding revokingEach
+each-done d [] time listed gave mem = refl
+each-done d (token ∷ tokens) time listed gave mem =
+    let left = revokingToken d token time listed mem in
+    each-done d tokens time listed (gave + one (eqb (numberOf (left .reply .answer)) 0)) (left .memory)
+
+-- ---- the calls
+
+module _ (mem : List ℕ) (time : ℕ) (listed : List ℕ) (P : Left Reply → Type 0) (bad : ¬ Sound mem → P (refuse mem BadWorld)) where
+  abbrev d : Numbers
+  d = numbersOf mem
+
+  -- 21 for a process list of over 32.
+  few-by-cases :
+      (out : Left Reply) → (32 < length listed → P (refuse mem BadField)) → (length listed ≤ 32 → P out)
+      → P (when (ltb 32 (length listed)) (refuse mem BadField) out)
+  few-by-cases out many few =
+      when-by-cases P _ _ (ltb 32 (length listed)) (λ e. many (ltb-true 32 _ e)) (λ e. few (ltb-false 32 _ e))
+
+  pub revoke-by-cases :
+      (token : ℕ) → (Sound mem → 32 < length listed → P (refuse mem BadField))
+      → (Sound mem → length listed ≤ 32 → registeredOf mem ≤ placeIn (numbersOf mem) mem (idOf token) → P (refuse mem InvalidCapability))
+      → (Sound mem → length listed ≤ 32 → placeIn (numbersOf mem) mem (idOf token) < registeredOf mem
+      → P (revoking (numbersOf mem) (placeIn (numbersOf mem) mem (idOf token)) time listed mem))
+      → P (revokeOut mem token time listed)
+  unfolding revokeOut
+  revoke-by-cases token many outside inside =
+      world-by-cases P (refuse mem) mem _ bad
+      (λ sound.
+      few-by-cases _ (many sound)
+      (λ few. unless-below P _ _ (placeIn d mem (idOf token)) (registeredOf mem) (outside sound few) (inside sound few)))
+
+  pub revoke-capability-by-cases :
+      (token : ℕ) → (Sound mem → 32 < length listed → P (refuse mem BadField))
+      → (Sound mem → length listed ≤ 32 → P (revokingToken (numbersOf mem) token time listed mem))
+      → P (revokeCapabilityOut mem token time listed)
+  unfolding revokeCapabilityOut
+  revoke-capability-by-cases token many few =
+      world-by-cases P (refuse mem) mem _ bad (λ sound. few-by-cases _ (many sound) (few sound))
+
+  pub held-by-cases :
+      (s token : ℕ) → (Sound mem → numbersOf mem .spaces ≤ s → P (refuse mem BadSpace))
+      → (Sound mem → s < numbersOf mem .spaces → 32 < length listed → P (refuse mem BadField))
+      → (Sound mem → s < numbersOf mem .spaces → length listed ≤ 32
+      → P (revokingHeld (numbersOf mem) token time listed (lookupStep (numbersOf mem) s token mem)
+      (lookedUp (spaceOf (numbersOf mem) s mem) token .got) (lookedUp (spaceOf (numbersOf mem) s mem) token .visits)))
+      → P (revokeHeldOut mem s token time listed)
+  unfolding revokeHeldOut
+  held-by-cases s token far many few =
+      space-by-cases P (refuse mem) mem _ bad s far (λ sound there. few-by-cases _ (many sound there) (few sound there))
+
+  pub batch-by-cases :
+      (tokens : List ℕ) → (Sound mem → 65535 < length tokens → P (refuse mem BadField))
+      → (Sound mem → length tokens ≤ 65535 → 32 < length listed → P (refuse mem BadField))
+      → (Sound mem → length tokens ≤ 65535 → length listed ≤ 32 → P (revokingEach (numbersOf mem) tokens time listed 0 mem))
+      → P (revokeBatchOut mem tokens time listed)
+  unfolding revokeBatchOut
+  batch-by-cases tokens over many few =
+      world-by-cases P (refuse mem) mem _ bad
+      (λ sound.
+      when-by-cases P _ _ (ltb 65535 (length tokens)) (λ e. over sound (ltb-true 65535 _ e))
+      (λ e. let fits = ltb-false 65535 (length tokens) e in few-by-cases _ (many sound fits) (few sound fits)))
+
+-- A revocation with the visits of a lookup as its count.
+abbrev pub withVisits : ℕ → Left Reply → Left Reply
+withVisits visits left = record { reply = replied (left .reply .answer) 0 visits; memory = left .memory }
+
+-- What they come to with good arguments.
+module _ (mem : List ℕ) (sound : Sound mem) (time : ℕ) (listed : List ℕ) (few : length listed ≤ 32) where
+  pub revoke-registered :
+      (token : ℕ) → placeIn (numbersOf mem) mem (idOf token) < registeredOf mem
+      → revokeOut mem token time listed ≡ revoking (numbersOf mem) (placeIn (numbersOf mem) mem (idOf token)) time listed mem
+  revoke-registered token inside =
+      revoke-by-cases mem time listed (λ out. out ≡ revoking (numbersOf mem) (placeIn (numbersOf mem) mem (idOf token)) time listed mem)
+      (λ bad. absurd (bad sound)) token (λ sound many. absurd (omega arith)) (λ sound few outside. absurd (omega arith))
+      (λ sound few inside. refl)
+
+  pub revoke-capability-called :
+      (token : ℕ) → revokeCapabilityOut mem token time listed ≡ revokingToken (numbersOf mem) token time listed mem
+  revoke-capability-called token =
+      revoke-capability-by-cases mem time listed (λ out. out ≡ revokingToken (numbersOf mem) token time listed mem)
+      (λ bad. absurd (bad sound)) token (λ sound many. absurd (omega arith)) (λ sound few. refl)
+
+  pub batch-called :
+      (tokens : List ℕ) → length tokens ≤ 65535
+      → revokeBatchOut mem tokens time listed ≡ revokingEach (numbersOf mem) tokens time listed 0 mem
+  batch-called tokens fits =
+      batch-by-cases mem time listed (λ out. out ≡ revokingEach (numbersOf mem) tokens time listed 0 mem) (λ bad. absurd (bad sound)) tokens
+      (λ sound over. absurd (omega arith)) (λ sound fits many. absurd (omega arith)) (λ sound fits few. refl)
+
+  -- Held with REVOKE: what is revoked by the token, on the memory with the lookup counted.
+  module _ (s token : ℕ) (there : s < numbersOf mem .spaces) (e : CapabilityEntry)
+      (is : lookedUp (spaceOf (numbersOf mem) s mem) token .got ≡ Entry e) (with′ : holds (e .rights .0) (2 ^ 4) ≡ true)
+    where
+      abbrev after : List ℕ
+      after = lookupStep (numbersOf mem) s token mem
+
+      abbrev visits : ℕ
+      visits = lookedUp (spaceOf (numbersOf mem) s mem) token .visits
+
+      pub held-with-revoke :
+          revokeHeldOut mem s token time listed ≡ withVisits visits (revokingToken (numbersOf mem) token time listed after)
+      held-with-revoke =
+          held-by-cases mem time listed (λ out. out ≡ withVisits visits (revokingToken (numbersOf mem) token time listed after))
+          (λ bad. absurd (bad sound)) s token (λ sound far. absurd (omega arith)) (λ sound there many. absurd (omega arith))
+          (λ sound there few.
+          ap (λ g. revokingHeld (numbersOf mem) token time listed after g visits) is
+          ∙ when-no (not (holds (e .rights .0) (2 ^ 4))) _ _ (ap not with′))

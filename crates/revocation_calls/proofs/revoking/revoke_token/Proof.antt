@@ -1,0 +1,70 @@
+-- The place of the id decides: registered or not.
+use mathlib.Core.List.{List}
+use mathlib.Core.Path.{_≡_, ap, _∙_}
+use Prim.Native.Nat.{ℕ, _≤_, _<_}
+use native.Mathlib.Omega.{arith}
+use borrow.Author.Needs.{needs}
+use borrow.Author.Tests.{lt-ltb, le-ltb}
+use lib.Dec.{ltb}
+use Rattle.base.specs.Choose.{pick}
+use Rattle.steps.proofs.laws.Ready.{ready-at}
+use Rattle.steps.specs.Replies.{Left}
+use Rattle.steps.specs.Steps.{placeIn}
+use Rattle.steps.specs.declared.Reply.{Reply}
+use Rattle.token.specs.Token.{idOf}
+use Rattle.world.specs.Numbers.{registeredOf}
+use Rattle.world.specs.declared.Numbers.{Numbers}
+use Rattle.revocation_calls.specs.Revoking.{revoking, listing, revokingToken}
+use Rattle.revocation_calls.proofs.revoking.revoke_token.Statement.{statement}
+use Rattle.revocation_calls.proofs.revoking.revoke_token.Tie as tie
+
+-- By the place r that the code found for the id.
+module _ (d : Numbers) (mem : List ℕ) (token time : ℕ) (listed : List ℕ) (id r : ℕ) (is-id : id ≡ idOf token)
+    (is-place : r ≡ placeIn d mem id)
+  where
+    by-place : pick (ltb r (registeredOf mem)) (revoking d r time listed mem) (listing d token mem) ≡ revokingToken d token time listed mem
+    unfolding revokingToken
+    by-place =
+        ap (λ r. pick (ltb r (registeredOf mem)) (revoking d r time listed mem) (listing d token mem)) (is-place ∙ ap (placeIn d mem) is-id)
+
+    registered :
+        r < registeredOf mem → (out : Left Reply) → out ≡ revoking d r time listed mem → out ≡ revokingToken d token time listed mem
+    registered inside out is = is ∙ rw (lt-ltb r (registeredOf mem) inside) at by-place
+
+    unregistered :
+        registeredOf mem ≤ r → (out : Left Reply) → out ≡ listing d token mem → out ≡ revokingToken d token time listed mem
+    unregistered outside out is = is ∙ rw (le-ltb r (registeredOf mem) outside) at by-place
+
+place-of-requires : tie.Need-place-of-requires
+place-of-requires c κs = ready-at _ _ (c .before .before .before .before .pre)
+
+slice-read-if1 : tie.Need-slice-read-if1
+slice-read-if1 c = omega (arith, ready-at _ _ (c .before .before .before .before .before .before .pre) .head)
+
+returns : tie.Need-returns
+returns c =
+    let call = c .before .before in
+    let tested = call .before .before in
+    let place = tested .before .before in
+    registered _ _ _ _ _ _ _ (place .before .id .ensures) (place .place-of .ensures .0) (tested .if1 .taken) _ (call .revoke-at .ensures)
+
+returns-2 : tie.Need-returns-2
+returns-2 c =
+    let call = c .before .before in
+    let tested = call .before .before in
+    let place = tested .before .before in
+    unregistered _ _ _ _ _ _ _ (place .before .id .ensures) (place .place-of .ensures .0) (tested .if1 .left) _ (call .list-token .ensures)
+
+pub revoke-token-spec : {M : Type 1} → statement M
+revoke-token-spec =
+    tie.close
+    (tie.spec
+    (λ c κs. search needs)
+    place-of-requires
+    slice-read-if1
+    (λ c κs. search needs)
+    (λ c. search needs)
+    returns
+    (λ c κs. search needs)
+    (λ c. search needs)
+    returns-2)

@@ -1,0 +1,3 @@
+-- What the contracts of `revocation_calls` cite.
+pub mod Revoking
+pub mod Calls

@@ -1,0 +1,124 @@
+// A cascade: a registered id and all its descendants that are not revoked yet, revoked, logged and queued. manager.rs's `revoke`, from the
+// place of its id on.
+ghost use mathlib.Core.Path.{_≡_};
+ghost use Prim.Native.Nat.{_+_, _<_, _≤_};
+ghost use lib.Dec.{ltb};
+ghost use lib.ListN.{length, take, drop};
+ghost use Rattle.answers.specs.declared.Answer.the-variants.{LogFull, PidTableFull};
+ghost use Rattle.base.specs.Choose.{pick, when};
+ghost use Rattle.registry.specs.Descent.{marked};
+ghost use Rattle.registry.specs.PlaceLists.{AllBelow};
+ghost use Rattle.revocation_steps.specs.Revocation.{addStep, cascade, logStep, freeQueues, newQueues, notifyAll};
+ghost use Rattle.steps.specs.Ready.{Ready, QueuesReady};
+ghost use Rattle.steps.specs.Replies as spec;
+ghost use Rattle.world.specs.Numbers.{registeredOf, loggedOf};
+ghost use Rattle.world.specs.Regions.{registry, onRegion};
+ghost use Rattle.world.specs.Sound.{SoundAt};
+ghost use Rattle.revocation_calls.specs.Revoking.{revoking};
+use answers::Answer;
+use revocation_steps::descent::descend;
+use revocation_steps::descent::ids_at;
+use revocation_steps::descent::keep_unrevoked;
+use revocation_steps::descent::mark;
+use revocation_steps::log::add;
+use revocation_steps::log::append_pairs;
+use revocation_steps::log::keep_absent;
+use revocation_steps::queues::free_queues;
+use revocation_steps::queues::new_queues;
+use revocation_steps::queues::notify_all;
+use steps::Reply;
+use steps::registered::state_at;
+use steps::replies::done;
+use steps::replies::refusal;
+use world::Numbers;
+
+// The places that a cascade from place r revokes, to the front of `order`. Answers how many they are.
+fn cascade_places(mem: &[u64], d: Numbers, r: usize, order: &mut [u16]) -> usize
+    requires { ⌜ SoundAt d (now mem) × (r < registeredOf (now mem)) × (d .places ≤ length (now order)) ⌝ }
+    ensures { λ count. ⌜ (take count (now (order .exit)) ≡ cascade d (now (mem .entry)) r) × (count ≤ d .places) ⌝ }
+    ensures { λ count. ⌜ AllBelow (d .places) (take count (now (order .exit))) ⌝ }
+{
+    let found = descend(mem, d, r, order);
+    keep_unrevoked(mem, d, order, found)
+}
+
+// How many new queues a cascade over `count` places needs: none where it revokes no descendant.
+fn queues_needed(mem: &[u64], d: Numbers, listed: &[u64], count: usize) -> usize
+    requires { ⌜ Ready d (now mem) ⌝ }
+    ensures { λ r. ⌜ r ≡ pick (ltb 1 count) (newQueues d (now (mem .entry)) (now (listed .entry))) 0 ⌝ }
+{
+    if 1 < count {
+        return new_queues(mem, d, listed);
+    }
+    0
+}
+
+// The places of `order`, whose ids are `ids`, are revoked and counted; the pairs join the log; the epoch counts each; each id but the first
+// is queued to every listed pid.
+fn revoke_places(
+    mem: &mut [u64],
+    d: Numbers,
+    order: &[u16],
+    ids: &[u64],
+    pairs: &[u64],
+    time: u64,
+    listed: &[u64],
+)
+    requires { ⌜ Ready d (now mem) × QueuesReady d (now mem) × AllBelow (d .places) (now order) ⌝ }
+    requires { ⌜ (loggedOf (now mem) + length (now pairs) ≤ d .pairs) × (0 < length (now ids)) ⌝ }
+    ensures { λ _. ⌜ now (mem .exit) ≡ notifyAll d (now (listed .entry)) (drop 1 (now (ids .entry))) time (addStep 6 (length (now (order .entry))) (logStep d (now (pairs .entry)) (addStep 9 (length (now (order .entry))) (onRegion d registry (marked (d .places) (now (order .entry))) (now (mem .entry)))))) ⌝ }
+{
+    mark(mem, d, order);
+    add(mem, 9, order.len());
+    append_pairs(mem, d, pairs);
+    add(mem, 6, order.len());
+    notify_all(mem, d, listed, &ids[1..], time);
+}
+
+// The same where the log and the queues have room for it, else 24 or 25 and nothing changes.
+fn revoke_listed(
+    mem: &mut [u64],
+    d: Numbers,
+    order: &[u16],
+    ids: &[u64],
+    pairs: &[u64],
+    time: u64,
+    listed: &[u64],
+) -> Reply
+    requires { ⌜ SoundAt d (now mem) × AllBelow (d .places) (now order) × (0 < length (now ids)) × (length (now pairs) ≤ 4096) ⌝ }
+    ensures { λ reply. ⌜ record { reply = reply; memory = now (mem .exit) } ≡ when (ltb (d .pairs) (loggedOf (now (mem .entry)) + length (now (pairs .entry)))) (spec.refuse (now (mem .entry)) LogFull) (when (ltb (freeQueues d (now (mem .entry))) (pick (ltb 1 (length (now (order .entry)))) (newQueues d (now (mem .entry)) (now (listed .entry))) 0)) (spec.refuse (now (mem .entry)) PidTableFull) (record { reply = spec.done 0; memory = notifyAll d (now (listed .entry)) (drop 1 (now (ids .entry))) time (addStep 6 (length (now (order .entry))) (logStep d (now (pairs .entry)) (addStep 9 (length (now (order .entry))) (onRegion d registry (marked (d .places) (now (order .entry))) (now (mem .entry)))))) })) ⌝ }
+{
+    if d.pairs < mem[13] as usize + pairs.len() {
+        return refusal(Answer::LogFull);
+    }
+    if free_queues(mem, d) < queues_needed(mem, d, listed, order.len()) {
+        return refusal(Answer::PidTableFull);
+    }
+    revoke_places(mem, d, order, ids, pairs, time, listed);
+    done(0)
+}
+
+// Place r is revoked with all under it. Already revoked: nothing changes.
+pub fn revoke_at(mem: &mut [u64], d: Numbers, r: usize, time: u64, listed: &[u64]) -> Reply
+    requires { ⌜ SoundAt d (now mem) × (r < registeredOf (now mem)) ⌝ }
+    ensures { λ reply. ⌜ record { reply = reply; memory = now (mem .exit) } ≡ revoking d r time (now (listed .entry)) (now (mem .entry)) ⌝ }
+{
+    if state_at(mem, d, r) % 2 == 1 {
+        return done(0);
+    }
+    let mut order = [0u16; 4096];
+    let count = cascade_places(mem, d, r, &mut order);
+    let mut ids = [0u64; 4096];
+    ids_at(mem, d, &order[..count], &mut ids);
+    let mut pairs = ids;
+    let absent = keep_absent(mem, d, &mut pairs, count);
+    revoke_listed(
+        mem,
+        d,
+        &order[..count],
+        &ids[..count],
+        &pairs[..absent],
+        time,
+        listed,
+    )
+}
