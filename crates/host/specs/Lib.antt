@@ -3,3 +3,4 @@ pub mod Answered
 pub mod Spaces
 pub mod Replies
 pub mod Manager
+pub mod Revocation

@@ -3,6 +3,7 @@
 mod flags;
 mod manager;
 mod replies;
+mod revocation;
 mod rights;
 mod spaces;
 mod tokens;

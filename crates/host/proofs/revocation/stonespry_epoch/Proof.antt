@@ -1,0 +1,13 @@
+-- `stonespry_epoch` meets its contract: the call's reply, seen so.
+-- Assumes nothing.
+use borrow.Author.Needs.{needs}
+use Rattle.host.proofs.revocation.stonespry_epoch.Statement.{statement}
+use Rattle.host.proofs.revocation.stonespry_epoch.Tie as tie
+
+pub stonespry-epoch-spec : {M : Type 1} → statement M
+stonespry-epoch-spec =
+    tie.close
+    (tie.spec
+    (λ c κs. search needs)
+    (λ c κs. search needs)
+    (λ c. cc))

@@ -1,0 +1,7 @@
+-- The statistics of the notifications as a host sees them: the answer by its number, all else as it is.
+use Rattle.answers.specs.Number.{numberOf}
+use Rattle.revocation_calls.specs.declared.QueuesReply.{QueuesReply}
+use Rattle.host.specs.declared.revocation.QueuesAnswer.{QueuesAnswer}
+
+abbrev pub queuesAnswer : QueuesReply → QueuesAnswer
+queuesAnswer r = record { answer = numberOf (r .answer); processes = r .processes; notifications = r .notifications }
