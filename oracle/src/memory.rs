@@ -15,6 +15,14 @@ const MISSES: usize = HITS + 1;
 /// Created, delegated, revoked, deleted.
 pub const STATISTICS: usize = EPOCH + 1;
 
+/// The reasons by their numbers.
+pub const REASON_BY_NUMBER: [RevocationReason; 4] = [
+    RevocationReason::Explicit,
+    RevocationReason::ParentRevoked,
+    RevocationReason::ProcessExit,
+    RevocationReason::PolicyEnforced,
+];
+
 pub fn view(mem: &[u64]) -> Option<View> {
     let numbers = Numbers::read(mem)?;
     Some(View {
@@ -127,6 +135,5 @@ fn queue(words: &[u64]) -> Option<QueueView> {
 }
 
 fn reason(number: u64) -> Option<RevocationReason> {
-    use RevocationReason::*;
-    [Explicit, ParentRevoked, ProcessExit, PolicyEnforced].get(number as usize).copied()
+    REASON_BY_NUMBER.get(usize::try_from(number).ok()?).copied()
 }

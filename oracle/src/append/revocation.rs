@@ -38,10 +38,22 @@ pub fn put(view: &RevocationView) {
     let notice = |&(cap_id, revoked_at, reason): &_| RevocationNotification { cap_id, revoked_at, reason };
     *DERIVATION_TREE.write() = view.tree.iter().cloned().collect();
     *REVOCATION_LIST.revoked.write() = view.set.iter().copied().collect();
-    *REVOCATION_LIST.log.write() = view.log.clone();
+    // With room behind it, as a log that grew has mostly.
+    let mut log = view.log.clone();
+    log.reserve(1);
+    *REVOCATION_LIST.log.write() = log;
     REVOCATION_LIST.epoch.store(view.epoch, Ordering::SeqCst);
     *REVOCATION_QUEUE.write() =
         view.queues.iter().map(|q| (q.pid, q.notices.iter().map(notice).collect())).collect();
+}
+
+/// How many pairs are logged.
+pub fn logged() -> usize {
+    REVOCATION_LIST.log.read().len()
+}
+
+pub fn epoch() -> u64 {
+    REVOCATION_LIST.epoch()
 }
 
 /// A capability has no list of children any more.

@@ -3,6 +3,7 @@
 mod kinds;
 mod manager;
 mod port;
+mod revocation;
 mod sound;
 mod space;
 mod table;
@@ -21,8 +22,9 @@ fn main() -> ExitCode {
         Some("table") => table::compare(&mut tally),
         Some("space") => space::compare(&mut tally),
         Some("manager") => manager::compare(&mut tally),
+        Some("revocation") => revocation::compare(&mut tally),
         _ => {
-            eprintln!("usage: compare token|table|space|manager");
+            eprintln!("usage: compare token|table|space|manager|revocation");
             return ExitCode::from(2);
         }
     }

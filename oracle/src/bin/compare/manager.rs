@@ -30,10 +30,8 @@ const KINDS: [(&str, Kind); 15] = [
 ];
 
 pub fn compare(tally: &mut Tally) {
-    let run = Run::of(tally, "manager.rs, the calls", &KINDS);
-    for (name, possible) in ManagerCall::ALL {
-        run.test_answers(tally, name, possible);
-    }
+    let run = Run::of(tally, "manager.rs, the calls", &ManagerCall::ALL, &KINDS);
+    run.test_answers(tally);
     run.test_done(tally, "the calls of a space among them", SpaceCall::ALL.map(|(_, name, _)| name).into_iter());
     run.test_events(tally);
 }

@@ -28,10 +28,8 @@ const KINDS: [(&str, Kind); 16] = [
 ];
 
 pub fn compare(tally: &mut Tally) {
-    let run = Run::of(tally, "space.rs, the calls", &KINDS);
-    for (_, name, possible) in SpaceCall::ALL {
-        run.test_answers(tally, name, possible);
-    }
+    let about = SpaceCall::ALL.map(|(_, name, possible)| (name, possible));
+    Run::of(tally, "space.rs, the calls", &about, &KINDS).test_answers(tally);
 }
 
 // ---- The kinds of histories

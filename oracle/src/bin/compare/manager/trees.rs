@@ -61,13 +61,13 @@ pub fn wide_and_filled(run: &mut Run, test: &mut Test, rng: &Rng) {
 
 impl Both<'_> {
     /// A capability that may be delegated, in space `s`.
-    fn create(&mut self, rng: &Rng, s: usize) -> u64 {
+    pub fn create(&mut self, rng: &Rng, s: usize) -> u64 {
         let call =
             ManagerCall::Create { s, object: rng.word(), valid: true, cap_type: some_type(rng), rights: ALL_RIGHTS };
         self.call(call).values[0]
     }
 
-    fn delegate(&mut self, token: u64, source: usize, target: usize, rights: u32) -> u64 {
+    pub fn delegate(&mut self, token: u64, source: usize, target: usize, rights: u32) -> u64 {
         self.call(ManagerCall::Delegate { token, source, target, rights }).values[0]
     }
 

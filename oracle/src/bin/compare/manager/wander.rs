@@ -5,7 +5,7 @@ use judge::layout::*;
 use judge::rng::Rng;
 use oracle::cap::space::{EntryView, SlotView};
 
-use crate::world::{Both, ManagerCall, SpaceCall};
+use crate::world::{Both, Kernel, ManagerCall, RevocationCall, SpaceCall};
 
 const GRANT: u32 = 8;
 
@@ -25,7 +25,7 @@ pub fn token_of(id: u64, cap_type: u8, rights: u32) -> u64 {
 
 impl Both<'_> {
     /// So many calls of the manager and of the spaces, in stretches in which capabilities leave more or less often; now
-    /// and then the original revokes.
+    /// and then one is revoked.
     pub fn manage(&mut self, rng: &Rng, calls: usize) {
         let mut leave = rng.below(20);
         for n in 1..=calls {
@@ -41,6 +41,11 @@ impl Both<'_> {
                 _ => drop(self.call(self.some_call(rng, s))),
             }
         }
+    }
+
+    /// Revokes a capability with all its descendants, with no process listed.
+    pub fn revoke(&mut self, token: u64) {
+        self.call(RevocationCall::Revoke { token, kernel: Kernel::default() });
     }
 
     /// An entry leaves a space, or a capability the registry.
@@ -118,7 +123,7 @@ impl Both<'_> {
     }
 
     /// A token that is asked for: of an entry of the space, mostly.
-    fn some_asked(&self, rng: &Rng, s: usize) -> u64 {
+    pub fn some_asked(&self, rng: &Rng, s: usize) -> u64 {
         match rng.below(16) {
             0 => self.stale(rng, s),
             1 => self.known(rng),

@@ -101,10 +101,11 @@ impl<'a> Both<'a> {
             && (0..self.numbers.s).all(same_space)
             && self.unused_places(answer).into_iter().all(same)
             && self.ids_in_order()
+            && (0..self.numbers.p).all(|q| self.queue_kept(q, call.changes_queues()))
     }
 
-    /// The places of the registry and the log that were not in use and are not, the queues, and what is past the world.
-    /// With 4, an id whose registration was undone stood one place further.
+    /// The places of the registry and the log that were not in use and are not, and what is past the world. With 4, an
+    /// id whose registration was undone stood one place further.
     fn unused_places(&self, answer: u8) -> [Range<usize>; 7] {
         let used = |count: usize| self.mem[count].max(self.before[count]) as usize;
         let registered = used(REGISTERED) + usize::from(answer == 4);
@@ -117,8 +118,27 @@ impl<'a> Both<'a> {
             unused(numbers.links(), registered),
             unused(numbers.recycled(), used(RECYCLED)),
             unused(numbers.log(), used(LOGGED)),
-            numbers.log().end..self.mem.len(),
+            numbers.length()..self.mem.len(),
         ]
+    }
+
+    /// Whether a place of a queue is as it was but for what a call may change there: the length where it is free now,
+    /// else the head and the notices. A queue keeps its place, and a new one takes the first that is free.
+    fn queue_kept(&self, q: usize, may_change: bool) -> bool {
+        let [before, now] = [&self.before, &self.mem].map(|mem| &mem[self.numbers.queue(q)]);
+        if !may_change {
+            return before == now;
+        }
+        let same = |range: Range<usize>| before[range.clone()] == now[range];
+        if now[LENGTH] == 0 {
+            return same(0..LENGTH) && same(LENGTH + 1..QUEUE);
+        }
+        let unused = |n: usize| reason_at(now[FIRST] as usize, n);
+        let in_place = match before[LENGTH] {
+            0 => (0..q).all(|earlier| self.mem[self.numbers.queue(earlier)][LENGTH] > 0),
+            _ => same(PID..PID + 1),
+        };
+        in_place && (now[LENGTH] as usize..NOTICES).all(|n| same(unused(n) - REASON..unused(n) + 1))
     }
 
     /// Whether the ids that stayed registered stand as they stood, and new ones behind them.

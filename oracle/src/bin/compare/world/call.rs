@@ -20,6 +20,11 @@ pub trait Call: Debug {
     /// The spaces that it may change.
     fn spaces(&self) -> Vec<usize>;
 
+    /// Whether it may change the queues.
+    fn changes_queues(&self) -> bool {
+        false
+    }
+
     /// What document 01 and the source answer in a world of these numbers.
     fn original(&self, history: &mut History, numbers: Numbers) -> Reply;
 
@@ -68,6 +73,15 @@ pub fn refused(answer: u8) -> Reply {
 /// Answer 0 with a value, and the visits or moves.
 pub fn done(value: u64, count: usize) -> Reply {
     replied(0, [value, count as u64, 0, 0, 0])
+}
+
+/// A list that goes to a lent area, with its value; 21 for an area too short. The places past the list stay unchanged.
+pub fn listed(list: &[u64], value: usize, mut area: Vec<u64>) -> Reply {
+    if area.len() < list.len() {
+        return Reply { area, ..refused(21) };
+    }
+    area[..list.len()].copy_from_slice(list);
+    Reply { area, ..done(value as u64, 0) }
 }
 
 /// How many entries a later insert into the space has moved: all that there are now, if the slots stand elsewhere then.

@@ -18,7 +18,7 @@ use oracle::cap::space::CapabilitySpace;
 use oracle::cap::token::{alloc_cap_id, CapabilityToken, Rights};
 use oracle::History;
 
-use super::call::{done, lent, moves, refused, replied, Call, Event, Made, Reply};
+use super::call::{done, lent, listed, moves, refused, replied, Call, Event, Made, Reply};
 use super::{any_token, port};
 
 /// With the arguments in the order of the port's call; a lent area by its length.
@@ -240,14 +240,13 @@ fn stats() -> Reply {
     replied(0, [created, delegated, revoked, deleted, 0])
 }
 
-/// 21 for an id over 2^48-1 or an area too short; the places of the area past the list stay unchanged.
-fn children(id: u64, mut area: Vec<u64>) -> Reply {
+/// 21 for an id over 2^48-1 too.
+fn children(id: u64, area: Vec<u64>) -> Reply {
     let children = get_children(id);
-    if ID_END <= id || area.len() < children.len() {
+    if ID_END <= id {
         return Reply { area, ..refused(21) };
     }
-    area[..children.len()].copy_from_slice(&children);
-    Reply { area, ..done(children.len() as u64, 0) }
+    listed(&children, children.len(), area)
 }
 
 /// The census, which document 01 adds: entries whose id is not registered.

@@ -1,10 +1,14 @@
-//! The port's opening, its look, and its calls of a space and of the manager, as the crate `host` exports them.
+//! The port's opening, its look, and its calls of a space, of the manager and of revocation, as the crate `host`
+//! exports them.
 //!
 //! The declarations keep to what tools/native says holds on both processors: a reply of more than 16 bytes is written
 //! where the first parameter says.
 
+mod revocation;
+
 use judge::layout::Numbers;
 
+pub use self::revocation::revocation_call;
 use super::call::{lent, replied, Reply};
 use super::manager_calls::ManagerCall;
 use super::space_calls::{SpaceCall, Words};
@@ -177,10 +181,7 @@ pub fn manager_call(mem: &mut [u64], call: ManagerCall) -> Reply {
             ManagerCall::IsValid { token } => reply(|out| stonespry_is_valid(out, m, n, token)),
             ManagerCall::Stats => manager_stats(|out| stonespry_manager_stats(out, m, n)),
             ManagerCall::GetChildren { id, area } => {
-                let mut area = lent(area);
-                let (start, places) = (area.as_mut_ptr(), area.len());
-                let reply = reply(|out| stonespry_get_children(out, m, n, id, start, places));
-                Reply { area, ..reply }
+                in_area(area, |out, area, places| stonespry_get_children(out, m, n, id, area, places))
             }
             ManagerCall::TreeStats => tree(|out| stonespry_derivation_tree_stats(out, m, n)),
             ManagerCall::Census { s } => reply(|out| stonespry_space_census(out, m, n, s)),
@@ -192,6 +193,14 @@ fn reply(call: impl FnOnce(Out)) -> Reply {
     let mut out = CallAnswer::default();
     call(&mut out);
     replied(out.answer, [out.value, out.count, 0, 0, 0])
+}
+
+/// A call that is lent an area of so many places.
+fn in_area(places: usize, call: impl FnOnce(Out, *mut u64, usize)) -> Reply {
+    let mut area = lent(places);
+    let start = area.as_mut_ptr();
+    let reply = reply(|out| call(out, start, places));
+    Reply { area, ..reply }
 }
 
 fn entry(call: impl FnOnce(EntryOut)) -> Reply {

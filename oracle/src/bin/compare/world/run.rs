@@ -16,8 +16,13 @@ const KEPT: usize = 1000;
 /// Histories of one kind.
 pub type Kind = fn(&mut Run, &mut Test, &Rng);
 
+/// A call by its name, and the answers that it can give.
+pub type Possible = (&'static str, &'static [u8]);
+
 #[derive(Default)]
 pub struct Run {
+    /// The calls that it is about: what happens in others, which are made among them, is not counted.
+    about: Vec<Possible>,
     calls: usize,
     /// How often a call gave an answer, by its name.
     answers: BTreeMap<&'static str, [u64; ANSWERS]>,
@@ -29,9 +34,9 @@ pub struct Run {
 
 impl Run {
     /// Makes the histories of all kinds.
-    pub fn of(tally: &mut Tally, subject: &str, kinds: &[(&'static str, Kind)]) -> Run {
+    pub fn of(tally: &mut Tally, subject: &str, about: &[Possible], kinds: &[(&'static str, Kind)]) -> Run {
         println!("{subject}: random histories, each from seed {SEED:#x}");
-        let mut run = Run::default();
+        let mut run = Run { about: about.to_vec(), ..Run::default() };
         for &(name, kind) in kinds {
             kinds::test(tally, name, |test| kind(&mut run, test, &Rng::new(SEED)));
         }
@@ -43,8 +48,10 @@ impl Run {
     /// One call on both sides, and the memory that it left.
     pub fn note(&mut self, call: &impl Call, made: &Made, mem: &[u64]) {
         self.note_answer(call, made.reply.answer);
-        for (event, happened) in call.events(made) {
-            self.note_event(event, happened);
+        if self.about.iter().any(|(name, _)| *name == call.name()) {
+            for (event, happened) in call.events(made) {
+                *self.events.entry(event).or_default() += u64::from(happened);
+            }
         }
         self.calls += 1;
         if self.calls % KEPT == 0 {
@@ -56,20 +63,18 @@ impl Run {
         self.answers.entry(call.name()).or_insert([0; ANSWERS])[answer as usize] += 1;
     }
 
-    pub fn note_event(&mut self, event: &'static str, happened: bool) {
-        *self.events.entry(event).or_default() += u64::from(happened);
-    }
-
     /// Each answer of a call was seen exactly where the call can give it.
-    pub fn test_answers(&self, tally: &mut Tally, name: &'static str, possible: &[u8]) {
-        let seen = self.answers.get(name).copied().unwrap_or([0; ANSWERS]);
-        let seen: Vec<(u8, u64)> = (0..).zip(seen).collect();
-        println!("  times of each answer: {:?}", seen.iter().filter(|(_, times)| *times > 0).collect::<Vec<_>>());
-        tally.test(name, |test| {
-            for &(answer, times) in &seen {
-                test.same(answer, possible.contains(&answer), times > 0);
-            }
-        });
+    pub fn test_answers(&self, tally: &mut Tally) {
+        for &(name, possible) in &self.about {
+            let seen = self.answers.get(name).copied().unwrap_or([0; ANSWERS]);
+            let seen: Vec<(u8, u64)> = (0..).zip(seen).collect();
+            println!("  times of each answer: {:?}", seen.iter().filter(|(_, times)| *times > 0).collect::<Vec<_>>());
+            tally.test(name, |test| {
+                for &(answer, times) in &seen {
+                    test.same(answer, possible.contains(&answer), times > 0);
+                }
+            });
+        }
     }
 
     /// Each of these calls was made, and done.

@@ -4,12 +4,10 @@
 use std::collections::HashSet;
 
 use judge::layout::{id_of, ID_END, MOST_CHILDREN};
-use oracle::cap::manager::RegisteredView;
-use oracle::cap::space::{EntryView, SlotView};
-use oracle::View;
 
 use super::ManagerCall::{self, *};
 use crate::world::call::{Event, Made};
+use crate::world::states::{entries, has_entry, has_older_entry, is_full, is_revoked, list, registered};
 
 pub fn of(call: ManagerCall, made: &Made) -> Vec<Event> {
     match call {
@@ -185,48 +183,7 @@ fn census(made: &Made, s: usize) -> [Event; 3] {
     ]
 }
 
-// ---- What a state says
-
 /// Whether a delegate made a child, and did not return one.
 fn makes_child(made: &Made) -> bool {
     made.gave(0) && made.after.manager.delegated != made.before.manager.delegated
-}
-
-fn registered(view: &View, id: u64) -> Option<&RegisteredView> {
-    let registry = &view.manager.registry;
-    registry.binary_search_by_key(&id, |e| e.id).ok().map(|place| &registry[place])
-}
-
-fn is_revoked(view: &View, id: u64) -> bool {
-    registered(view, id).is_some_and(|e| e.revoked)
-}
-
-/// The list of an id's children, if it has one.
-fn list(view: &View, id: u64) -> Option<&[u64]> {
-    let tree = &view.revocation.tree;
-    tree.binary_search_by_key(&id, |(parent, _)| *parent).ok().map(|place| &tree[place].1[..])
-}
-
-fn is_full(view: &View, s: usize) -> bool {
-    view.spaces.get(s).is_some_and(|space| space.quota <= space.used)
-}
-
-fn entries(view: &View, s: usize) -> impl Iterator<Item = EntryView> + '_ {
-    view.spaces[s].table.slots.iter().filter_map(|slot| match slot {
-        SlotView::Full(entry) => Some(*entry),
-        _ => None,
-    })
-}
-
-fn entries_of(view: &View, id: u64) -> usize {
-    (0..view.spaces.len()).flat_map(|s| entries(view, s)).filter(|e| id_of(e.token) == id).count()
-}
-
-fn has_entry(view: &View, id: u64) -> bool {
-    entries_of(view, id) > 0
-}
-
-/// An entry that was there before its id was registered is not counted among the holders.
-fn has_older_entry(view: &View, id: u64) -> bool {
-    registered(view, id).is_some_and(|e| (e.holders as usize) < entries_of(view, id))
 }
