@@ -119,7 +119,7 @@ pub data Looks (mem : List ℕ) : Walk → Type 0 where
       → isLive (slotWords (spaceOf (numbersOf mem) s mem)) i ≡ true
       → Looks mem (seeking (numbersOf mem) s (idAt (slotWords (spaceOf (numbersOf mem) s mem)) i) mem)
 
--- ---- every walk of a call: those of the look, then its own, of which a call that is refused before makes none
+-- ---- every walk of a call: those of the look, then its own. Where a call is refused before one of them, it is listed all the same
 
 pub data Walks (mem : List ℕ) : Call → Walk → Type 0 where
   before-reading : (call : Reading) (w : Walk) → Looks mem w → Walks mem (reads call) w
