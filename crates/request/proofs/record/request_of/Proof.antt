@@ -1,5 +1,6 @@
 -- `request::record::request_of` meets its contract: each field is its part of a word.
 -- Assumes nothing.
+use native.Mathlib.Omega.{arith}
 use borrow.Author.Needs.{needs}
 use Rattle.request.specs.Record.{requestOf}
 use Rattle.request.proofs.record.request_of.Statement.{statement}
@@ -7,7 +8,7 @@ use Rattle.request.proofs.record.request_of.Tie as tie
 
 returns : tie.Need-returns
 unfolding requestOf
-returns c = cc
+returns c = (cc, omega arith)
 
 pub request-of-spec : {M : Type 1} → statement M
 request-of-spec =
