@@ -1,6 +1,5 @@
 -- `request::record::request_of` meets its contract: each field is its part of a word.
 -- Assumes nothing.
-use native.Mathlib.Omega.{arith}
 use borrow.Author.Needs.{needs}
 use Rattle.request.specs.Record.{requestOf}
 use Rattle.request.proofs.record.request_of.Statement.{statement}
@@ -8,7 +7,7 @@ use Rattle.request.proofs.record.request_of.Tie as tie
 
 returns : tie.Need-returns
 unfolding requestOf
-returns c = (cc, omega arith)
+returns c = cc
 
 pub request-of-spec : {M : Type 1} → statement M
 request-of-spec =
