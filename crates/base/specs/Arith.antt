@@ -1,16 +1,16 @@
 -- The least power of two at or above a number, with the facts that single it out.
-use mathlib.Core.Path.{_≡_, refl, _∙_}
+use mathlib.Core.Path.{_≡_, refl}
 use mathlib.Core.Logic.{⊎-elim, by-cases}
 use mathlib.Core.Bool.{Bool}
 use Prim.Native.Nat.{ℕ, zero, suc, _*_, _^_, _<_, _≤_}
 use native.Mathlib.Nat.{le-antisymm, eq-or-lt-of-le}
 use native.Mathlib.Decide.{decLt}
 use native.Mathlib.Omega.{arith}
-use borrow.Author.Tests.{leb-true, leb-false, le-leb}
+use borrow.Author.Tests.{leb-true, le-leb}
 use lib.Dec.{leb}
 use lib.Pow.{pow-mono}
 use Rattle.base.specs.Below.{first}
-use Rattle.base.specs.FirstLaws.{first-le, first-passes, first-before, first-le-of}
+use Rattle.base.specs.FirstLaws.{first-le, first-passes, first-le-of}
 
 -- 2 ^ k is at or above n.
 abbrev reaches : ℕ → ℕ → Bool
@@ -54,28 +54,12 @@ next-least n k h =
     (λ l. pow-mono (first-le-of (reaches n) n k l (le-leb n (2 ^ k) h)))
     (λ far. pow-mono (omega (arith, first-le (reaches n) n)))
 
--- so it is below twice n,
-pub next-lt : (n : ℕ) → 0 < n → nextPower n < 2 * n
-unfolding nextPower
-next-lt n pos = go (exponent n) refl
-  where
-    go : (e : ℕ) → exponent n ≡ e → 2 ^ e < 2 * n
-    go zero q = omega arith
-    go (suc e) q = omega (arith, leb-false n (2 ^ e) (first-before (reaches n) n e (omega arith)))
-
 -- which no other power is that is at or above n,
 pub next-is : (n k : ℕ) → n ≤ 2 ^ k → 2 ^ k < 2 * n → nextPower n ≡ 2 ^ k
 unfolding nextPower
 next-is n k h u =
     let below : ¬ (exponent n < k) = λ l. omega (arith, pow-mono l, next-le n) in
     le-antisymm (next-least n k h) (pow-mono (omega arith))
-
--- it doubles with n,
-pub next-double : (n : ℕ) → 0 < n → nextPower (2 * n) ≡ 2 * nextPower n
-next-double n pos =
-    let (k, e) = next-power n in
-    let up : 2 ^ suc k ≡ 2 * nextPower n = omega (arith, e) in
-    next-is (2 * n) (suc k) (omega (arith, next-le n)) (omega (arith, next-lt n pos)) ∙ up
 
 -- and it grows with n.
 pub next-mono : (m n : ℕ) → m ≤ n → nextPower m ≤ nextPower n

@@ -127,18 +127,6 @@ pub first-after : (p : ℕ → Bool) (n : ℕ) → p 0 ≡ false → first p (n 
 unfolding first
 first-after p n h = simp add-one (from-next p (suc n) n 0 refl h ∙ from-after p n 0)
 
--- A loop that counts what is left down to 0, whose invariant is `r ≡ firstFrom p n t` for the answer r.
-pub first-down-found : (p : ℕ → Bool) (n t r : ℕ) → r ≡ firstFrom p n t → 0 < n → p t ≡ true → t ≡ r
-first-down-found p n t r e l h = sym (e ∙ from-here p n (n - 1) t (omega arith) h)
-
-pub first-down-next : (p : ℕ → Bool) (n t r : ℕ) → r ≡ firstFrom p n t → 0 < n → p t ≡ false → r ≡ firstFrom p (n - 1) (t + 1)
-first-down-next p n t r e l h = e ∙ from-step p n (n - 1) t (omega arith) h
-
-pub first-down-done : (p : ℕ → Bool) (n t r : ℕ) → r ≡ firstFrom p n t → n ≤ 0 → t ≡ r
-first-down-done p n t r e l = sym (e ∙ from-none p n t (omega arith))
-
-pub ruleset first-down = (from-start, first-down-found, first-down-next, first-down-done)
-
 -- A loop that counts t up to n, whose invariant is `r ≡ firstFrom p (n - t) t`.
 pub first-up-start : (p : ℕ → Bool) (n : ℕ) → first p n ≡ firstFrom p (n - 0) 0
 first-up-start p n = rw sub-zero (from-start p n)

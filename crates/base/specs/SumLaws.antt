@@ -96,5 +96,3 @@ sum-stays f i s e h = omega (arith, sum-more f i)
 
 pub sum-done : (f : ℕ → ℕ) (i n s : ℕ) → s ≡ sum f i → i ≤ n → n ≤ i → s ≡ sum f n
 sum-done f i n s e l m = e ∙ ap (sum f) (le-antisymm l m)
-
-pub ruleset sum-loop = (sum-zero, sum-goes, sum-stays, sum-done)

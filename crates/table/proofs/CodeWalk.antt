@@ -3,7 +3,7 @@ use mathlib.Core.Path.{_≡_, refl, sym, ap, _∙_}
 use mathlib.Core.List.{List}
 use mathlib.Core.Bool.{Bool, true, false, not}
 use mathlib.Core.Logic.{by-cases}
-use Prim.Native.Nat.{ℕ, suc, _+_, _-_, _%_, _<_, _≤_}
+use Prim.Native.Nat.{ℕ, _+_, _-_, _%_, _<_, _≤_}
 use native.Mathlib.Nat.{sub-zero, add-zero, add-comm, mod-eq-of-lt, mod-add-mod}
 use native.Mathlib.Decide.{decLt}
 use native.Mathlib.Omega.{arith}
@@ -13,7 +13,7 @@ use lib.Dec.{eqb}
 use Rattle.base.specs.Choose.{pick, both, both-left, both-right}
 use Rattle.base.specs.Below.{firstFrom, first}
 use Rattle.base.specs.FirstLaws.{first-is, first-after, first-up-start, first-up-found, first-up-next, first-up-done}
-use Rattle.table.specs.Slots.{kindAt, isEmpty, isLive, idAt}
+use Rattle.table.specs.Slots.{kindAt, isLive, idAt}
 use Rattle.table.specs.Walk.{homeOf, walk, stops, stepsToStop, ended, search, searchFrom, stepsToFree, freeFor}
 use Rattle.table.specs.declared.Found.the-variants.{At, Absent}
 use Rattle.table.specs.declared.Search.{Search}

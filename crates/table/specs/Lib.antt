@@ -5,4 +5,3 @@ pub mod Walk
 pub mod Insert
 pub mod Copy
 pub mod Sound
-pub mod Rows

@@ -63,7 +63,10 @@ fn copy_entry(words: &mut [u64], s: Inserted, entry: CapabilityEntry) -> Inserte
 // A table of the scratch's first `count` entries, over whatever the words held.
 pub fn copy_from(words: &mut [u64], scratch: &[u64; 2048], count: usize) -> Inserted
     requires { ⌜ (count ≤ 256) × (4 * slotsFor count ≤ length (now words)) ⌝ }
-    ensures { λ r. ⌜ leaves (now (words .exit)) r ≡ insertAll (listed (now (scratch .entry)) 0 count) (record { words = now (words .entry); counts = none; moved = 0 }) ⌝ }
+    ensures { λ r. ⌜
+        leaves (now (words .exit)) r
+        ≡ insertAll (listed (now (scratch .entry)) 0 count) (record { words = now (words .entry); counts = none; moved = 0 })
+        ⌝ }
 {
     let table = CapTable {
         slots: 0,

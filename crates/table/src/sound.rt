@@ -148,7 +148,11 @@ fn all_found(words: &[u64], slots: usize, live: &[u16]) -> bool
 // The slots, against the counts and one by one.
 fn slots_sound(words: &[u64], t: CapTable) -> bool
     requires { ⌜ (t .slots ≤ 512) × (4 * t .slots ≤ length (now words)) ⌝ }
-    ensures { λ r. ⌜ r ≡ both (codedTest (now (words .entry)) (t .slots)) (both (countsTest (now (words .entry)) t) (foundTest (now (words .entry)) (t .slots))) ⌝ }
+    ensures { λ r. ⌜
+        r
+        ≡ both (codedTest (now (words .entry)) (t .slots))
+        (both (countsTest (now (words .entry)) t) (foundTest (now (words .entry)) (t .slots)))
+        ⌝ }
 {
     let mut live = [0u16; 512];
     if !kinds_sound(words, t, &mut live) {

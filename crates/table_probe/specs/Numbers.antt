@@ -24,14 +24,14 @@ unfoldable pub keeps : List ℕ → CapTable → ℕ → List ℕ
 keeps ns t moved = set (set (set (set ns 0 (t .slots)) 1 (t .full)) 2 (t .tombstones)) 3 moved
 
 -- The words and the numbers as a call leaves them.
-pub record Left : Type 0 where
+pub record Probed : Type 0 where
   pub words : List ℕ
   pub numbers : List ℕ
 
-abbrev pub left : List ℕ → List ℕ → Left
+abbrev pub left : List ℕ → List ℕ → Probed
 left ws ns = record { words = ws; numbers = ns }
 
-abbrev pub leaves : List ℕ → Table → Left
+abbrev pub leaves : List ℕ → Table → Probed
 leaves ns t = left (t .words) (keeps ns (t .counts) (t .moved))
 
 abbrev pub entryOf : ℕ → ℕ → ℕ → ℕ → CapabilityEntry

@@ -8,12 +8,11 @@ ghost use Rattle.table.specs.Walk.{search, got};
 ghost use Rattle.table.specs.Insert.{slotsFor, heldAt, Insertable, insertNew, removedAt, liveEntries, gathered, holds, listed, none};
 ghost use Rattle.table.specs.Copy.{nthOf, insertAll};
 ghost use Rattle.table.specs.Sound.{soundTest};
-ghost use Rattle.table_probe.specs.Numbers.{countsOf, keeps, Left, left, leaves, entryOf, entryWords, ended, answers, gotWords, nthWords};
+ghost use Rattle.table_probe.specs.Numbers.{countsOf, keeps, left, leaves, entryOf, entryWords, ended, answers, gotWords, nthWords};
 use table::CapTable;
 use table::CapabilityEntry;
 use table::Found;
 use table::Got;
-use table::Inserted;
 use table::Nth;
 use table::copy_from;
 use table::find;
@@ -132,7 +131,11 @@ pub extern "C" fn table_probe_insert_new(
     uses: u64,
 )
     requires { ⌜ Insertable (now words) (countsOf (now numbers)) ⌝ }
-    ensures { λ _. ⌜ left (now (words .exit)) (now (numbers .exit)) ≡ leaves (now (numbers .entry)) (insertNew (now (words .entry)) (countsOf (now (numbers .entry))) (entryOf token object rights uses)) ⌝ }
+    ensures { λ _. ⌜
+        left (now (words .exit)) (now (numbers .exit))
+        ≡ leaves (now (numbers .entry))
+        (insertNew (now (words .entry)) (countsOf (now (numbers .entry))) (entryOf token object rights uses))
+        ⌝ }
 {
     let entry = CapabilityEntry {
         capability: CapabilityToken(token),
@@ -153,7 +156,10 @@ pub extern "C" fn table_probe_remove_at(
     out: &mut [u64; 4],
 ) -> bool
     requires { ⌜ (i < 512) × (4 * i + 3 < length (now words)) × (getD (now numbers) 2 0 ≤ 512) ⌝ }
-    ensures { λ _. ⌜ left (now (words .exit)) (now (numbers .exit)) ≡ leaves (now (numbers .entry)) (removedAt (now (words .entry)) (countsOf (now (numbers .entry))) i) ⌝ }
+    ensures { λ _. ⌜
+        left (now (words .exit)) (now (numbers .exit))
+        ≡ leaves (now (numbers .entry)) (removedAt (now (words .entry)) (countsOf (now (numbers .entry))) i)
+        ⌝ }
     ensures { λ r. ⌜ answers r (now (out .exit)) ≡ gotWords (now (out .entry)) (heldAt (now (words .entry)) i) ⌝ }
 {
     let s = remove_at(words, counts(numbers), i);
@@ -185,7 +191,11 @@ pub extern "C" fn table_probe_copy_from(
     count: usize,
 )
     requires { ⌜ (count ≤ 256) × (4 * slotsFor count ≤ length (now words)) ⌝ }
-    ensures { λ _. ⌜ left (now (words .exit)) (now (numbers .exit)) ≡ leaves (now (numbers .entry)) (insertAll (listed (now (scratch .entry)) 0 count) (record { words = now (words .entry); counts = none; moved = 0 })) ⌝ }
+    ensures { λ _. ⌜
+        left (now (words .exit)) (now (numbers .exit))
+        ≡ leaves (now (numbers .entry))
+        (insertAll (listed (now (scratch .entry)) 0 count) (record { words = now (words .entry); counts = none; moved = 0 }))
+        ⌝ }
 {
     let s = copy_from(words, scratch, count);
     let table = s.table;

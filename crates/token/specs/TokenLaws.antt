@@ -48,9 +48,6 @@ module _ (id g t f : ℕ) where
         fits-or-refused
 
     module _ (g-fits : g < 2 ^ 8) where
-      pub new-makes-a-word : k .0 < 2 ^ 64
-      new-makes-a-word = omega (arith, new-packs)
-
       pub new-then-id : idOf (k .0) ≡ id
       new-then-id = omega (arith, new-packs)
 

@@ -119,9 +119,6 @@ module _
         ↔ HoldsAs fresh source (t .slots) x
     copy-holds-fresh-entries = copied-all .holds
 
-    pub copy-full : copied source (t .slots) target .counts .full ≡ t .full
-    copy-full = copied-all .full ∙ sound .live-agrees
-
     pub copy-length : length (copied source (t .slots) target .words) ≡ length target
     copy-length = copied-all .long
 

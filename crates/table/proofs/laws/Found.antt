@@ -9,7 +9,7 @@ use native.Mathlib.Omega.{arith}
 use lib.ListN.{length}
 use Rattle.table.specs.Slots.{isLive, idOf, entryAt}
 use Rattle.table.specs.Walk.{search, gotAt, got}
-use Rattle.table.specs.Insert.{slotsFor, rebuilt, roomFor, insertNew, removedAt}
+use Rattle.table.specs.Insert.{slotsFor, rebuilt, roomFor, insertNew}
 use Rattle.table.specs.Copy.{fresh, copied}
 use Rattle.table.specs.Sound.{Sound}
 use Rattle.table.specs.declared.CapabilityEntry.{CapabilityEntry}
@@ -22,7 +22,6 @@ use Rattle.table.proofs.laws.Copy.{copy-is-sound, copy-holds-fresh-entr
 use Rattle.table.proofs.laws.Exact.{search-at, none-absent, live-is-found}
 use Rattle.table.proofs.laws.Insert.{insert-keeps-sound, insert-holds-old-and-new}
 use Rattle.table.proofs.laws.Rebuild.{rebuild-keeps-sound, rebuild-holds-the-same}
-use Rattle.table.proofs.laws.Remove.{remove-keeps-sound, remove-holds-all-others}
 use Rattle.table.proofs.laws.Structure.{Lacks}
 
 pub record Finds (ws : List ℕ) (slots : ℕ) (x : CapabilityEntry) : Type 0 where
@@ -91,14 +90,6 @@ pub all-found-after-rebuild :
     → (x : CapabilityEntry) → Holds ws (t .slots) x → Finds (rebuilt ws (t .slots) (roomFor (t .full))) (roomFor (t .full)) x
 all-found-after-rebuild most ws t sound some more long x h =
     held-is-found most _ _ x (rebuild-keeps-sound most ws t sound more long some) (rebuild-holds-the-same most ws t sound more long x .1 h)
-
-pub others-found-after-remove :
-    (most : ℕ) (ws : List ℕ) (t : CapTable) (i : ℕ) → Sound most ws t → i < t .slots → isLive ws i ≡ true → 4 * t .slots ≤ length ws
-    → (x : CapabilityEntry) → Holds ws (t .slots) x → x ≢ entryAt ws i
-    → Finds (removedAt ws t i .words) (removedAt ws t i .counts .slots) x
-others-found-after-remove most ws t i sound l lives long x h other =
-    held-is-found most _ _ x (remove-keeps-sound most ws t i sound l lives long)
-    (remove-holds-all-others most ws t i sound l lives long x .1 (h, other))
 
 pub copies-are-found :
     (most : ℕ) (source : List ℕ) (t : CapTable) (target : List ℕ) → Sound most source t → 4 * slotsFor most ≤ length target

@@ -138,6 +138,3 @@ module _ (most : ℕ) (ws : List ℕ) (long : 4 * slotsFor most ≤ length ws) (
 
   pub moves-at-most-three-for-one : afterAll calls (start ws) .moved ≤ 3 * afterAll calls (start ws) .accepted
   moves-at-most-three-for-one = omega (arith, all-paid .paid)
-
-  pub calls-keep-sound : Sound most (afterAll calls (start ws) .words) (afterAll calls (start ws) .counts)
-  calls-keep-sound = all-paid .sound

@@ -5,7 +5,7 @@ use mathlib.Core.Path.{_≡_, ap}
 use Prim.Native.Nat.{ℕ}
 use native.Mathlib.Omega.{arith}
 use borrow.Author.Needs.{needs}
-use Rattle.table.specs.Insert.{Table, removedAt}
+use Rattle.table.specs.Insert.{removedAt}
 use Rattle.table.specs.declared.CapTable.{CapTable}
 use Rattle.table.specs.declared.Got.{Got}
 use Rattle.table_probe.specs.Numbers.{countsOf, keeps, left, leaves, answers, gotWords}

@@ -1,5 +1,4 @@
 -- `Answer::number` meets its contract: in each arm the answer is the arm's case, whose number is by definition the arm's.
--- Assumes nothing.
 use mathlib.Core.Path.{ap, sym}
 use borrow.Author.Needs.{needs}
 use Rattle.answers.specs.Number.{numberOf}

@@ -1,5 +1,4 @@
 -- `base::arith::by_halves` meets its contract: the schoolbook product of two numbers of two digits, of which the lower two are kept.
--- Assumes nothing.
 use mathlib.Core.Path.{_≡_}
 use Prim.Native.Nat.{ℕ, _+_, _*_, _/_, _%_, _^_, _<_}
 use native.Mathlib.Nat.{le-of-lt, lt-of-le-of-lt, mul-le-mul-left, mul-lt-mul-of-pos-right, mod-lt, div-add-mod', add-mod, mod-add-mod, mul-add-mod-self-right}

@@ -1,5 +1,4 @@
 -- `base::arith::next_power_of_two` meets its contract: the bits of n - 1, which its leading zeros leave of 64, are the exponent.
--- Assumes nothing.
 use mathlib.Core.Path.{_≡_, sym}
 use Prim.Native.Nat.{ℕ, _-_, _*_, _%_, _^_, _<_, _≤_}
 use native.Mathlib.Nat.{mod-eq-of-lt, one-mul}

@@ -1,5 +1,4 @@
 -- `base::distinct::bucket` meets its contract: the upper half h of the product is below 2 ^ 32, so h / 2 ^ 32 of n is less than n.
--- Assumes nothing.
 use mathlib.Core.Path.{ap}
 use Prim.Native.Nat.{ℕ, _*_, _/_, _^_, _<_, _≤_}
 use native.Mathlib.Nat.{lt-of-lt-of-le, mul-comm, mul-le-mul-left, mul-lt-mul-of-pos-right, div-lt-iff-lt-mul}

@@ -1,5 +1,4 @@
 -- `base::distinct::distinct` meets its contract: a list of one word or none has no two places, and fresh arrays index nothing.
--- Assumes nothing.
 use mathlib.Core.Path.{sym}
 use native.Mathlib.Omega.{arith}
 use borrow.Author.Needs.{needs}

@@ -1,6 +1,5 @@
 -- `base::distinct::index` meets its contract. The loop's invariant: the places below j are chained, and their words all new.
 -- The measure is what is left of the list.
--- Assumes nothing.
 use mathlib.Core.Path.{_≡_, refl, sym, _∙_}
 use mathlib.Core.Bool.{true, false, true≢false}
 use mathlib.Core.List.{List}

@@ -1,5 +1,4 @@
 -- `base::distinct::place_of` meets its contract: the walk from the end of the list finds the last place.
--- Assumes nothing.
 use mathlib.Core.Path.{_≡_, sym, _∙_}
 use mathlib.Core.List.{List}
 use mathlib.Core.Logic.{_≢_}

@@ -8,13 +8,5 @@ use Rattle.table.proofs.copy.copy_entry.Tie as tie
 pub copy-entry-spec : {M : Type 1} → statement M
 copy-entry-spec =
     tie.close
-    (tie.spec
-    (λ c κs. search needs)
-    (λ c κs. search needs)
-    (λ c. search needs)
-    (λ c κs. search needs)
-    (λ c. search needs)
-    (λ c. search copy-entry-laws)
-    (λ c κs. search copy-entry-laws)
-    (λ c. search needs)
-    (λ c. search copy-entry-laws))
+    (tie.spec (λ c κs. search needs) (λ c κs. search needs) (λ c. search needs) (λ c κs. search needs) (λ c. search needs)
+    (λ c. search copy-entry-laws) (λ c κs. search copy-entry-laws) (λ c. search needs) (λ c. search copy-entry-laws))

@@ -39,14 +39,5 @@ loop-again c =
 pub copy-from-spec : {M : Type 1} → statement M
 copy-from-spec =
     tie.close
-    (tie.spec
-    Inv-loop
-    μ-loop
-    (λ c. search copy-laws)
-    (λ c κs. search needs)
-    copy-entry-requires
-    (λ c. search needs)
-    (λ c. search needs)
-    loop-again
-    (λ c. search needs)
-    (λ c. search copy-laws))
+    (tie.spec Inv-loop μ-loop (λ c. search copy-laws) (λ c κs. search needs) copy-entry-requires (λ c. search needs) (λ c. search needs)
+    loop-again (λ c. search needs) (λ c. search copy-laws))

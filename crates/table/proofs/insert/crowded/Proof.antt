@@ -11,9 +11,4 @@ returns c = search needs
 pub crowded-spec : {M : Type 1} → statement M
 crowded-spec =
     tie.close
-    (tie.spec
-    (λ c. search needs)
-    (λ c. search needs)
-    (λ c. search needs)
-    (λ c. search needs)
-    returns)
+    (tie.spec (λ c. search needs) (λ c. search needs) (λ c. search needs) (λ c. search needs) returns)

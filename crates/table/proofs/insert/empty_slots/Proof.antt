@@ -18,16 +18,5 @@ abbrev μ-loop : tie.MeasureT-loop
 pub empty-slots-spec : {M : Type 1} → statement M
 empty-slots-spec =
     tie.close
-    (tie.spec
-    Inv-loop
-    μ-loop
-    (λ c. search empty-laws)
-    (λ c. search needs)
-    (λ c. search needs)
-    (λ c. search needs)
-    (λ c. search needs)
-    (λ c. search needs)
-    (λ c. search needs)
-    (λ c. search empty-laws)
-    (λ c. search needs)
-    (λ c. search empty-laws))
+    (tie.spec Inv-loop μ-loop (λ c. search empty-laws) (λ c. search needs) (λ c. search needs) (λ c. search needs) (λ c. search needs)
+    (λ c. search needs) (λ c. search needs) (λ c. search empty-laws) (λ c. search needs) (λ c. search empty-laws))

@@ -20,12 +20,5 @@ abbrev μ-loop : tie.MeasureT-loop
 pub gather-spec : {M : Type 1} → statement M
 gather-spec =
     tie.close
-    (tie.spec
-    Inv-loop
-    μ-loop
-    (λ c. search gather-laws)
-    (λ c κs. search needs)
-    (λ c. search needs)
-    (λ c. search needs)
-    (λ c. search gather-laws)
-    (λ c. search gather-laws))
+    (tie.spec Inv-loop μ-loop (λ c. search gather-laws) (λ c κs. search needs) (λ c. search needs) (λ c. search needs)
+    (λ c. search gather-laws) (λ c. search gather-laws))

@@ -7,12 +7,5 @@ use Rattle.table.proofs.insert.insert_new.Tie as tie
 pub insert-new-spec : {M : Type 1} → statement M
 insert-new-spec =
     tie.close
-    (tie.spec
-    (λ c κs. search needs)
-    (λ c κs. search needs)
-    (λ c κs. search needs)
-    (λ c. search needs)
-    (λ c. search insert-laws)
-    (λ c κs. search insert-laws)
-    (λ c. search needs)
-    (λ c. search insert-laws))
+    (tie.spec (λ c κs. search needs) (λ c κs. search needs) (λ c κs. search needs) (λ c. search needs) (λ c. search insert-laws)
+    (λ c κs. search insert-laws) (λ c. search needs) (λ c. search insert-laws))

@@ -21,16 +21,5 @@ abbrev μ-loop : tie.MeasureT-loop
 pub place-all-spec : {M : Type 1} → statement M
 place-all-spec =
     tie.close
-    (tie.spec
-    Inv-loop
-    μ-loop
-    (λ c. search place-laws)
-    (λ c κs. search needs)
-    (λ c κs. search needs)
-    (λ c κs. search needs)
-    (λ c κs. search needs)
-    (λ c. search needs)
-    (λ c. search needs)
-    (λ c. search place-laws)
-    (λ c. search needs)
-    (λ c. search place-laws))
+    (tie.spec Inv-loop μ-loop (λ c. search place-laws) (λ c κs. search needs) (λ c κs. search needs) (λ c κs. search needs)
+    (λ c κs. search needs) (λ c. search needs) (λ c. search needs) (λ c. search place-laws) (λ c. search needs) (λ c. search place-laws))

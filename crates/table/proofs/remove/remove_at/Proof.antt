@@ -1,5 +1,4 @@
 -- `table::remove::remove_at` meets its contract: it goes by what the slot is, and the test of the live count is `removedAt`'s.
--- Assumes nothing.
 use mathlib.Core.Path.{_≡_}
 use mathlib.Core.List.{List}
 use Prim.Native.Nat.{ℕ, _+_, _-_, _<_, _≤_}

@@ -35,12 +35,5 @@ module _ (most : ℕ) (t : CapTable) where
 pub counts-fit-spec : {M : Type 1} → statement M
 counts-fit-spec =
     tie.close
-    (tie.spec
-    (λ c. search over)
-    (λ c. search marked)
-    (λ c. search needs)
-    (λ c. search needs)
-    (λ c. search needs)
-    (λ c. search tight)
-    (λ c. search bare)
-    (λ c. search some))
+    (tie.spec (λ c. search over) (λ c. search marked) (λ c. search needs) (λ c. search needs) (λ c. search needs) (λ c. search tight)
+    (λ c. search bare) (λ c. search some))

@@ -27,10 +27,4 @@ module _ (most slots : ℕ) (some : ¬ (slots ≡ 0)) where
 pub is-capacity-spec : {M : Type 1} → statement M
 is-capacity-spec =
     tie.close
-    (tie.spec
-    (λ c. search none)
-    (λ c. search low)
-    (λ c κs. search needs)
-    (λ c. search high)
-    (λ c κs. search needs)
-    (λ c. search power))
+    (tie.spec (λ c. search none) (λ c. search low) (λ c κs. search needs) (λ c. search high) (λ c κs. search needs) (λ c. search power))

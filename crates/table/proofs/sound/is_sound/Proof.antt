@@ -71,10 +71,5 @@ slots-sound-requires c κs =
 pub is-sound-spec : {M : Type 1} → statement M
 is-sound-spec =
     tie.close
-    (tie.spec
-    (λ c κs. search needs)
-    (λ c. search no-capacity)
-    counts-fit-requires
-    (λ c. search unfit)
-    slots-sound-requires
+    (tie.spec (λ c κs. search needs) (λ c. search no-capacity) counts-fit-requires (λ c. search unfit) slots-sound-requires
     (λ c. search rest))

@@ -1,5 +1,4 @@
 -- `table::sound::slots_sound` meets its contract: the listed slots are the live ones, so that their searches are those of `foundTest`.
--- Assumes nothing.
 use mathlib.Core.Path.{_≡_, refl, sym, ap, _∙_}
 use mathlib.Core.Bool.{Bool, true, false, not}
 use mathlib.Core.List.{List}
@@ -98,10 +97,4 @@ returns-2 c =
 pub slots-sound-spec : {M : Type 1} → statement M
 slots-sound-spec =
     tie.close
-    (tie.spec
-    (λ c κs. search needs)
-    (λ c. search fails)
-    array-share-prefix-live
-    slice-aggregate-all-found
-    all-found-requires
-    returns-2)
+    (tie.spec (λ c κs. search needs) (λ c. search fails) array-share-prefix-live slice-aggregate-all-found all-found-requires returns-2)

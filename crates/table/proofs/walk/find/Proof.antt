@@ -7,15 +7,5 @@ use Rattle.table.proofs.walk.find.Tie as tie
 pub find-spec : {M : Type 1} → statement M
 find-spec =
     tie.close
-    (tie.spec
-    (λ c. search home-laws)
-    (λ c κs. search needs)
-    (λ c κs. search needs)
-    (λ c κs. search needs)
-    (λ c. search home-laws)
-    (λ c. search home-laws)
-    (λ c κs. search needs)
-    (λ c. search needs)
-    (λ c κs. search needs)
-    (λ c. search needs)
-    (λ c. search home-laws))
+    (tie.spec (λ c. search home-laws) (λ c κs. search needs) (λ c κs. search needs) (λ c κs. search needs) (λ c. search home-laws)
+    (λ c. search home-laws) (λ c κs. search needs) (λ c. search needs) (λ c κs. search needs) (λ c. search needs) (λ c. search home-laws))

@@ -18,15 +18,5 @@ abbrev μ-loop : tie.MeasureT-loop
 pub free-for-spec : {M : Type 1} → statement M
 free-for-spec =
     tie.close
-    (tie.spec
-    Inv-loop
-    μ-loop
-    (λ c κs. search needs)
-    (λ c. search free-laws)
-    (λ c κs. search needs)
-    (λ c. search free-laws)
-    (λ c κs. search needs)
-    (λ c. search needs)
-    (λ c. search needs)
-    (λ c. search free-laws)
-    (λ c. search free-laws))
+    (tie.spec Inv-loop μ-loop (λ c κs. search needs) (λ c. search free-laws) (λ c κs. search needs) (λ c. search free-laws)
+    (λ c κs. search needs) (λ c. search needs) (λ c. search needs) (λ c. search free-laws) (λ c. search free-laws))

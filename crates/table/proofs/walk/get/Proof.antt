@@ -1,5 +1,4 @@
 -- `table::walk::get` meets its contract: where the search found an id, the slot is below the slot count and its entry the answer.
--- Assumes nothing.
 use mathlib.Core.Path.{_≡_, ap, sym, _∙_}
 use mathlib.Core.List.{List}
 use Prim.Native.Nat.{ℕ, _<_}
@@ -33,10 +32,4 @@ entry-at-requires c κs = omega (arith, below _ _ _ _ _ (c .before .before .befo
 pub get-spec : {M : Type 1} → statement M
 get-spec =
     tie.close
-    (tie.spec
-    (λ c κs. search needs)
-    (λ c. search needs)
-    entry-at-requires
-    (λ c. search needs)
-    (λ c. search entry)
-    (λ c. search nothing))
+    (tie.spec (λ c κs. search needs) (λ c. search needs) entry-at-requires (λ c. search needs) (λ c. search entry) (λ c. search nothing))

@@ -1,5 +1,4 @@
 -- `call::listed` meets its contract: the count never passes the array's length.
--- Assumes nothing.
 use mathlib.Core.Path.{_≡_}
 use Prim.Native.Nat.{_≤_, _-_}
 use lib.ListN.{length}

@@ -1,5 +1,4 @@
 -- `line::number` meets its contract: before each turn the digits passed spell the value.
--- Assumes nothing.
 use mathlib.Core.Path.{_≡_, refl}
 use mathlib.Core.List.{List}
 use Prim.Native.Nat.{ℕ, zero, suc, _+_, _-_, _*_, _^_, _≤_, _<_}
@@ -45,14 +44,5 @@ abbrev μ-loop : tie.MeasureT-loop
 pub number-spec : {M : Type 1} → statement M
 number-spec =
     tie.close
-    (tie.spec
-    Inv-loop
-    μ-loop
-    (λ c. search number-laws)
-    (λ c. search number-laws)
-    (λ c. search number-laws)
-    (λ c κs. search number-laws)
-    (λ c. search number-laws)
-    (λ c. search number-laws)
-    (λ c. search number-laws)
-    (λ c. search number-laws))
+    (tie.spec Inv-loop μ-loop (λ c. search number-laws) (λ c. search number-laws) (λ c. search number-laws) (λ c κs. search number-laws)
+    (λ c. search number-laws) (λ c. search number-laws) (λ c. search number-laws) (λ c. search number-laws))

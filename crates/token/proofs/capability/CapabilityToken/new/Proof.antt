@@ -1,5 +1,4 @@
 -- `CapabilityToken::new` meets its contract: past the three tests the fields fit, and after each that failed they do not.
--- Assumes nothing.
 use mathlib.Core.Path.{sym}
 use native.Mathlib.Omega.{arith}
 use borrow.Author.Needs.{needs}
@@ -27,14 +26,5 @@ all-fit c =
 pub new-spec : {M : Type 1} → statement M
 new-spec =
     tie.close
-    (tie.spec
-    id-over
-    type-over
-    flags-over
-    (λ c. search needs)
-    (λ c. search needs)
-    (λ c. search needs)
-    (λ c. search needs)
-    (λ c. search needs)
-    (λ c. search needs)
-    all-fit)
+    (tie.spec id-over type-over flags-over (λ c. search needs) (λ c. search needs) (λ c. search needs) (λ c. search needs)
+    (λ c. search needs) (λ c. search needs) all-fit)

@@ -1,5 +1,4 @@
 -- `CapabilityFlags::from_number` meets its contract: each arm's number names the arm's permission, and what is left names none.
--- Assumes nothing.
 use mathlib.Core.Path.{sym, ap}
 use borrow.Author.Tests.{ne-eqb}
 use Rattle.token.specs.Flags.{named}

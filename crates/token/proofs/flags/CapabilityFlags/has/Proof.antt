@@ -1,5 +1,4 @@
 -- `CapabilityFlags::has` meets its contract: a mask of one bit leaves 0 exactly where that bit is not 1.
--- Assumes nothing.
 use Prim.Native.Nat.{ℕ, _*_, _^_}
 use mathlib.Core.Bool.{not}
 use mathlib.Core.Path.{_≡_, ap}

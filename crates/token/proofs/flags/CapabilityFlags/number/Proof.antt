@@ -1,5 +1,4 @@
 -- `CapabilityFlags::number` meets its contract: the cast goes by way of a signed number, which is 2 to the permission's place.
--- Assumes nothing.
 use Prim.Native.Nat.{ℕ, _^_}
 use mathlib.Core.Path.{_≡_, refl, sym, ap, _∙_}
 use mathlib.Core.Logic.{⊎-elim}

@@ -1,5 +1,4 @@
 -- `Rights::constant` meets its contract: the table holds the definition's numbers, and past it is nothing.
--- Assumes nothing.
 use Prim.Native.Nat.{ℕ}
 use mathlib.Core.Path.{sym, ap, _∙_}
 use native.Mathlib.Omega.{arith}
