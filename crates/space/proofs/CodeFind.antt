@@ -1,8 +1,11 @@
 -- What the functions that find an entry answer, by where their search ended.
 use mathlib.Core.Path.{_≡_, refl, sym, ap, _∙_}
 use mathlib.Core.List.{List}
-use Prim.Native.Nat.{ℕ}
+use Prim.Native.Nat.{ℕ, _+_, _*_, _≤_}
+use native.Mathlib.Omega.{arith}
 use borrow.Author.Needs.{needs}
+use lib.ListN.{length, getD, set, length-set}
+use lib.Seq.{getD-set-other, set-getD, set-comm}
 use Rattle.table.specs.Slots.{entryAt}
 use Rattle.table.specs.declared.CapabilityEntry.{CapabilityEntry}
 use Rattle.table.specs.declared.Found.{Found}
@@ -10,8 +13,11 @@ use Rattle.table.specs.declared.Found.the-variants.{At, Absent}
 use Rattle.table.specs.declared.Got.the-variants.{Entry, Nothing}
 use Rattle.table.specs.declared.Search.{Search}
 use Rattle.table.proofs.laws.Exact.{search-at}
-use Rattle.space.specs.Words.{tableOf, slotWords, InRange, SlotOf}
-use Rattle.space.specs.Lookup.{searchId, searchFor, wholly, exactly, exactSearch, lookedUp, gotEntry, countedAt, counted}
+use Rattle.space.specs.Words.{hitsOf, missesOf, tableOf, slotWords, InRange, SlotOf}
+use Rattle.space.specs.Lookup.{up, isFound, searchId, searchFor, wholly, exactly, exactSearch, lookedUp, gotEntry, withUse, countedAt, counted}
+use Rattle.space.specs.Counters.{oneMore, countersOf, withCounters, countedSearch}
+use Rattle.space.specs.declared.counters.CountedSearch.{CountedSearch}
+use Rattle.space.specs.declared.counters.Counters.{Counters}
 use Rattle.space.proofs.laws.Lookup.{exactly-at}
 
 -- ---- by the id
@@ -59,8 +65,60 @@ module _ (sp : List ℕ) (token : ℕ) (s : Search) (is : s ≡ exactSearch sp t
   unfolding lookedUp
   answers-entry i e at-i here = cc
 
-  pub counts : (f : Found) (after : List ℕ) → s .found ≡ f → after ≡ countedAt sp f → after ≡ counted sp token
-  unfolding counted
-  counts f after found here = cc
+-- ---- by the whole token, counted in the record that was lent
 
-pub ruleset find-laws = (searched-slot, gets-nothing, gets-entry, id-absent, id-found, exact-slot, answers-nothing, answers-entry, counts, needs)
+module _ (sp : List ℕ) (token : ℕ) (c : Counters) (r : CountedSearch) (was : c ≡ countersOf sp) (is : r ≡ countedSearch sp token c) where
+  lent-search : r .search ≡ exactSearch sp token
+  lent-search = ap (λ (r : CountedSearch). r .search) is
+
+  pub lent-slot : (i : ℕ) → InRange sp → r .search .found ≡ At i → SlotOf sp i
+  lent-slot = exact-slot sp token (r .search) lent-search
+
+  pub lent-nothing : r .search .found ≡ Absent → record { got = Nothing; visits = r .search .visits } ≡ lookedUp sp token
+  lent-nothing = answers-nothing sp token (r .search) lent-search
+
+  pub lent-entry : (i : ℕ) (e : CapabilityEntry) → r .search .found ≡ At i → e ≡ entryAt (slotWords sp) i
+      → record { got = Entry e; visits = r .search .visits } ≡ lookedUp sp token
+  lent-entry = answers-entry sp token (r .search) lent-search
+
+  ended : (f : Found) → r .search .found ≡ f → exactly sp token ≡ f
+  ended f e = sym (ap (λ (r : CountedSearch). r .search .found) is) ∙ e
+
+  lent-counters : (f : Found) → r .search .found ≡ f → r .counters ≡ oneMore (countersOf sp) (isFound f)
+  lent-counters f e =
+      ap (λ (r : CountedSearch). r .counters) is
+      ∙ ap (λ (c : Counters). oneMore c (isFound (exactly sp token))) was
+      ∙ ap (λ (f : Found). oneMore (countersOf sp) (isFound f)) (ended f e)
+
+  pub counts-miss : (after : List ℕ) → r .search .found ≡ Absent → after ≡ withCounters sp (r .counters) → after ≡ counted sp token
+  unfolding counted withCounters
+  counts-miss after e here =
+      here
+      ∙ ap (withCounters sp) (lent-counters Absent e)
+      ∙ ap (λ (l : List ℕ). set l 3 (up (missesOf sp))) (set-getD sp 2 0)
+      ∙ sym (ap (countedAt sp) (ended Absent e))
+
+  pub counts-hit :
+      (i : ℕ) (used after : List ℕ) → r .search .found ≡ At i → used ≡ withUse sp i → after ≡ withCounters used (r .counters)
+      → after ≡ counted sp token
+  unfolding counted withCounters
+  counts-hit i used after e one-use here =
+      let h = up (hitsOf sp) in
+      let at = 8 + 4 * i + 2 in
+      let u = up (getD sp at 0) in
+      here
+      ∙ ap (λ (l : List ℕ). withCounters l (r .counters)) one-use
+      ∙ ap (withCounters (withUse sp i)) (lent-counters (At i) e)
+      ∙ ap (λ (l : List ℕ). set l 3 (missesOf sp)) (set-comm sp at 2 u h (λ e. omega arith))
+      ∙ set-comm (set sp 2 h) at 3 u (missesOf sp) (λ e. omega arith)
+      ∙ ap (λ (m : ℕ). set (set (set sp 2 h) 3 m) at u) (sym (getD-set-other sp 2 3 h 0 (λ e. omega arith)))
+      ∙ ap (λ (l : List ℕ). set l at u) (set-getD (set sp 2 h) 3 0)
+      ∙ sym (ap (countedAt sp) (ended (At i) e))
+
+-- After the use is counted the two words are still there.
+pub counters-fit : (sp used : List ℕ) (i : ℕ) → InRange sp → used ≡ withUse sp i → 8 ≤ length used
+counters-fit sp used i range one-use = rw (one-use, length-set) (omega (arith, range .held))
+
+pub ruleset find-laws = (searched-slot, gets-nothing, gets-entry, id-absent, id-found, exact-slot, answers-nothing, answers-entry, needs)
+
+pub ruleset lookup-laws = (lent-slot, lent-nothing, lent-entry, counts-miss, counts-hit, counters-fit, needs)

@@ -1,5 +1,4 @@
 -- What changes one space: inserting, removing, clearing, and its generation. Document 01, "Table of a space (001)".
-use mathlib.Core.Bool.{Bool, true, false}
 use mathlib.Core.List.{List}
 use Prim.Native.Nat.{ℕ, _+_, _%_, _^_}
 use lib.Dec.{leb}
@@ -13,7 +12,7 @@ use Rattle.table.specs.declared.CapabilityEntry.{CapabilityEntry}
 use Rattle.table.specs.declared.Found.{Found}
 use Rattle.table.specs.declared.Found.the-variants.{At, Absent}
 use Rattle.space.specs.Words.{quotaOf, generationOf, tableOf, slotWords, withCounts, withTable}
-use Rattle.space.specs.Lookup.{searchId, exactly}
+use Rattle.space.specs.Lookup.{isFound, searchId, exactly}
 use Rattle.space.specs.declared.Insertion.{Insertion}
 
 -- ---- inserting
@@ -39,10 +38,6 @@ inserted sp e = withTable sp (insertedTable sp e)
 
 abbrev pub accepted : List ℕ → CapabilityEntry → InsertOut
 accepted sp e = record { words = inserted sp e; answer = Done; moved = insertedTable sp e .moved }
-
-abbrev pub isFound : Found → Bool
-isFound (At i) = true
-isFound Absent = false
 
 -- Insert tests quota, then the id.
 unfoldable pub insertOut : List ℕ → CapabilityEntry → InsertOut

@@ -2,6 +2,7 @@
 pub mod Words
 pub mod Sound
 pub mod Lookup
+pub mod Counters
 pub mod Change
 pub mod Copy
 pub mod Ids

@@ -1,4 +1,5 @@
 -- Document 01: lookup matches the whole token and counts hits, misses and uses in 64 bits, wrapping.
+use mathlib.Core.Bool.{Bool, true, false}
 use mathlib.Core.List.{List}
 use Prim.Native.Nat.{ℕ, _+_, _*_, _%_, _^_}
 use lib.Dec.{eqb}
@@ -14,6 +15,10 @@ use Rattle.space.specs.declared.LookedUp.{LookedUp}
 -- A 64-bit counter goes up by one and wraps.
 abbrev pub up : ℕ → ℕ
 up n = (n + 1) % 2 ^ 64
+
+abbrev pub isFound : Found → Bool
+isFound (At i) = true
+isFound Absent = false
 
 -- The search for an id.
 abbrev pub searchId : List ℕ → ℕ → Search
@@ -47,6 +52,10 @@ lookedUp sp token = entryOf sp (exactSearch sp token)
 -- The entry of the id, whatever its generation.
 unfoldable pub gotEntry : List ℕ → ℕ → LookedUp
 gotEntry sp id = entryOf sp (searchId sp id)
+
+-- One use more of the entry of slot i.
+abbrev pub withUse : List ℕ → ℕ → List ℕ
+withUse sp i = set sp (8 + 4 * i + 2) (up (getD sp (8 + 4 * i + 2) 0))
 
 -- The lookup counted: a hit with its entry's use, or a miss.
 abbrev pub countedAt : List ℕ → Found → List ℕ

@@ -3,12 +3,13 @@ ghost use mathlib.Core.Path.{_≡_};
 ghost use Prim.Native.Nat.{_<_};
 ghost use Rattle.table.specs.Slots.{entryAt};
 ghost use Rattle.space.specs.Words.{quotaOf, tableOf, slotWords, InRange, SlotOf};
-ghost use Rattle.space.specs.Lookup.{searchId, lookedUp};
-ghost use Rattle.space.specs.Change.{isFound, insertedTable, inserted, insertOut, answered, removed, removedToken, cleared, nextGeneration};
+ghost use Rattle.space.specs.Lookup.{isFound, searchId, lookedUp};
+ghost use Rattle.space.specs.Change.{insertedTable, inserted, insertOut, answered, removed, removedToken, cleared, nextGeneration};
 use super::Insertion;
 use super::LookedUp;
 use super::find::entry_at;
 use super::find::exact;
+use super::find::is_found;
 use super::find::search_id;
 use super::words::generation;
 use super::words::put_generation;
@@ -23,22 +24,12 @@ use table::Found;
 use table::Got;
 use token::CapabilityToken;
 
-fn is_found(found: Found) -> bool
-    ensures { λ r. ⌜ r ≡ isFound found ⌝ }
-{
-    match found {
-        Found::At(_) => true,
-        Found::Absent => false,
-    }
-}
-
 // Whether an entry has the id.
 fn holds_id(sp: &[u64], id: u64) -> bool
     requires { ⌜ InRange (now sp) ⌝ }
     ensures { λ r. ⌜ r ≡ isFound (searchId (now (sp .entry)) id .found) ⌝ }
 {
-    let found = search_id(sp, id).found;
-    is_found(found)
+    is_found(search_id(sp, id))
 }
 
 fn accept(sp: &mut [u64], entry: CapabilityEntry) -> usize

@@ -12,7 +12,10 @@ use super::words::table_capacity;
 // The live entries, in slot order, into the scratch.
 pub fn gather(sp: &[u64], scratch: &mut [u64; 2048]) -> usize
     requires { ⌜ InRange (now sp) ⌝ }
-    ensures { λ r. ⌜ holds (now (scratch .exit)) r ≡ gathered (slotWords (now (sp .entry))) 0 (tableOf (now (sp .entry)) .slots) (holds (now (scratch .entry)) 0) ⌝ }
+    ensures { λ r. ⌜
+        holds (now (scratch .exit)) r
+        ≡ gathered (slotWords (now (sp .entry))) 0 (tableOf (now (sp .entry)) .slots) (holds (now (scratch .entry)) 0)
+        ⌝ }
 {
     table::gather(&sp[8..], table_capacity(sp), scratch)
 }

@@ -4,8 +4,11 @@ ghost use Rattle.table.specs.Slots.{entryAt};
 ghost use Rattle.table.specs.Insert.{liveEntries};
 ghost use Rattle.table.specs.Copy.{nthOf};
 ghost use Rattle.space.specs.Words.{tableOf, slotWords, InRange, SlotOf};
-ghost use Rattle.space.specs.Lookup.{searchId, wholly, exactSearch, countedAt, counted, lookedUp, gotEntry};
+ghost use Rattle.space.specs.Lookup.{isFound, searchId, wholly, exactSearch, counted, lookedUp, gotEntry, withUse};
 use super::LookedUp;
+use super::counters::lend;
+use super::words::counters_of;
+use super::words::put_counters;
 use super::words::table_capacity;
 use table::CapabilityEntry;
 use table::Found;
@@ -19,6 +22,16 @@ pub fn search_id(sp: &[u64], id: u64) -> Search
     ensures { λ r. ⌜ r ≡ searchId (now (sp .entry)) id ⌝ }
 {
     table::find(&sp[8..], table_capacity(sp), id)
+}
+
+pub fn is_found(s: Search) -> bool
+    ensures { λ r. ⌜ r ≡ isFound (s .found) ⌝ }
+{
+    let found = s.found;
+    match found {
+        Found::At(_) => true,
+        Found::Absent => false,
+    }
 }
 
 pub fn entry_at(sp: &[u64], i: usize) -> CapabilityEntry
@@ -55,40 +68,35 @@ pub fn exact(sp: &[u64], token: CapabilityToken) -> Search
     }
 }
 
-fn count_hit(sp: &mut [u64], i: usize)
+fn count_use(sp: &mut [u64], i: usize)
     requires { ⌜ SlotOf (now sp) i ⌝ }
-    ensures { λ _. ⌜ now (sp .exit) ≡ countedAt (now (sp .entry)) (Found.At i) ⌝ }
+    ensures { λ _. ⌜ now (sp .exit) ≡ withUse (now (sp .entry)) i ⌝ }
 {
     let at = 8 + 4 * i + 2;
-    let uses = std::num::wrapping_add_u64(sp[at], 1);
-    sp[2] = std::num::wrapping_add_u64(sp[2], 1);
-    sp[at] = uses;
+    sp[at] = std::num::wrapping_add_u64(sp[at], 1);
 }
 
-fn count_miss(sp: &mut [u64])
-    requires { ⌜ InRange (now sp) ⌝ }
-    ensures { λ _. ⌜ now (sp .exit) ≡ countedAt (now (sp .entry)) Found.Absent ⌝ }
-{
-    sp[3] = std::num::wrapping_add_u64(sp[3], 1);
-}
-
-// Lookup of exactly this token, counted. The entry is answered as it was before its use.
+// Lookup of exactly this token, counted: the counters are lent and stored when they have come back. The entry is answered as it was before
+// its use.
 pub fn lookup(sp: &mut [u64], token: CapabilityToken) -> LookedUp
     requires { ⌜ InRange (now sp) ⌝ }
     ensures { λ _. ⌜ now (sp .exit) ≡ counted (now (sp .entry)) (token .0) ⌝ }
     ensures { λ r. ⌜ r ≡ lookedUp (now (sp .entry)) (token .0) ⌝ }
 {
-    let s = exact(sp, token);
+    let counted = lend(sp, token, counters_of(sp));
+    let s = counted.search;
+    let after = counted.counters;
     let found = s.found;
     let Found::At(i) = found else {
-        count_miss(sp);
+        put_counters(sp, after);
         return LookedUp {
             got: Got::Nothing,
             visits: s.visits,
         };
     };
     let entry = entry_at(sp, i);
-    count_hit(sp, i);
+    count_use(sp, i);
+    put_counters(sp, after);
     LookedUp {
         got: Got::Entry(entry),
         visits: s.visits,

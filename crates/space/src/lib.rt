@@ -2,6 +2,7 @@
 // and atomics are plain words here; the slots of its table, from word 8 on, are the crate `table`'s.
 mod change;
 mod copy;
+mod counters;
 mod find;
 mod ids;
 mod sound;

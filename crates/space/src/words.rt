@@ -3,6 +3,8 @@ ghost use mathlib.Core.Path.{_≡_};
 ghost use Prim.Native.Nat.{_≤_};
 ghost use lib.ListN.{length, set};
 ghost use Rattle.space.specs.Words.{quotaOf, generationOf, hitsOf, missesOf, tableOf, withCounts, InRange};
+ghost use Rattle.space.specs.Counters.{countersOf, withCounters};
+use super::counters::Counters;
 use table::CapTable;
 
 pub fn quota(sp: &[u64]) -> usize
@@ -31,6 +33,25 @@ pub fn misses(sp: &[u64]) -> u64
     ensures { λ r. ⌜ r ≡ missesOf (now (sp .entry)) ⌝ }
 {
     sp[3]
+}
+
+// The two counters as one record, and one stored in their place.
+pub fn counters_of(sp: &[u64]) -> Counters
+    requires { ⌜ InRange (now sp) ⌝ }
+    ensures { λ r. ⌜ r ≡ countersOf (now (sp .entry)) ⌝ }
+{
+    Counters {
+        hits: sp[2],
+        misses: sp[3],
+    }
+}
+
+pub fn put_counters(sp: &mut [u64], c: Counters)
+    requires { ⌜ 8 ≤ length (now sp) ⌝ }
+    ensures { λ _. ⌜ now (sp .exit) ≡ withCounters (now (sp .entry)) c ⌝ }
+{
+    sp[2] = c.hits;
+    sp[3] = c.misses;
 }
 
 // Slots allocated by the table.

@@ -13,7 +13,6 @@ use lib.ListN.{length, getD}
 use lib.Seq.{getD-set-same, getD-set-other}
 use Rattle.base.specs.Choose.{pick}
 use Rattle.table.specs.Slots.{isLive, entryAt}
-use Rattle.table.specs.Walk.{search}
 use Rattle.table.specs.declared.CapabilityEntry.{CapabilityEntry}
 use Rattle.table.specs.declared.Found.{Found}
 use Rattle.table.specs.declared.Found.the-variants.{At, Absent}
@@ -22,12 +21,12 @@ use Rattle.table.proofs.laws.Contents.{HoldsAs, Holds}
 use Rattle.table.proofs.laws.Exact.{search-at}
 use Rattle.space.specs.Words.{hitsOf, missesOf, tableOf, slotWords}
 use Rattle.space.specs.Sound.{SpaceOf}
-use Rattle.space.specs.Lookup.{up, searchId, exactly, lookedUp, countedAt, counted}
+use Rattle.space.specs.Lookup.{up, exactly, lookedUp, countedAt, counted}
 use Rattle.space.proofs.laws.Held.{tokenOf, Has, has-as, slot-token, held-exactly, got-exactly, answered-as-before}
 use Rattle.space.proofs.laws.Kept.{fits, held, lookup-keeps}
 use Rattle.space.proofs.laws.Lookup.{exactly-at}
-use Rattle.space.proofs.laws.Uses.{uses-token, uses-object, uses-tag, uses-search}
-use Rattle.space.proofs.laws.View.{View, view, withHits, withMisses, withSlots, usedAt, view-hit, view-miss}
+use Rattle.space.proofs.laws.Uses.{uses-token, uses-object, uses-tag}
+use Rattle.space.proofs.laws.View.{view, withHits, withMisses, withSlots, usedAt, view-hit, view-miss}
 
 abbrev withUses : CapabilityEntry → ℕ → CapabilityEntry
 withUses e n = record { capability = e .capability; object = e .object; rights = e .rights; uses = n }
@@ -94,15 +93,6 @@ module _ (most : ℕ) (sp : List ℕ) (s : SpaceOf most sp) (token : ℕ) where
   pub miss-counts : exactly sp token ≡ Absent → view (counted sp token) ≡ withMisses (up (missesOf sp)) (view sp)
   unfolding counted
   miss-counts e = ap (λ f. view (countedAt sp f)) e ∙ view-miss sp (fits most sp s)
-
-  pub searches-as-before-lookup : (id : ℕ) → searchId (counted sp token) id ≡ searchId sp id
-  searches-as-before-lookup id = go (exactly sp token) refl
-    where
-      go : (f : Found) → exactly sp token ≡ f → searchId (counted sp token) id ≡ searchId sp id
-      go (At i) e =
-          ap (λ (v : View). search (v .words) (v .counts .slots) id) (hit-counts i e)
-          ∙ uses-search (slotWords sp) i _ (tableOf sp .slots) id
-      go Absent e = ap (λ (v : View). search (v .words) (v .counts .slots) id) (miss-counts e)
 
   -- An entry of another token keeps its uses.
   other-kept : (x : CapabilityEntry) → tokenOf x ≢ token → x ≡ usedBy token x

@@ -1,7 +1,7 @@
 -- What a space holds: a token is answered exactly with the entry that the space holds under it. Each call is then what it does to the
 -- entries held: an insert adds one, a removal takes the token's, a clear takes all, a lookup counts a use, a copy takes the source's.
 use mathlib.Core.Path.{_≡_, refl, sym, ap, subst, _∙_}
-use mathlib.Core.Logic.{_↔_, _≢_, _⊎_, inl, inr, ⊎-elim}
+use mathlib.Core.Logic.{_↔_, _≢_, _⊎_, inr}
 use mathlib.Core.List.{List}
 use Prim.Native.Nat.{ℕ, _+_, _*_, _%_, _^_, _<_}
 use native.Mathlib.Omega.{arith}
@@ -118,14 +118,6 @@ module _ (most : ℕ) (sp : List ℕ) (s : SpaceOf most sp) where
 
     pub inserted-is-found : lookedUp (insertOut sp e .words) (tokenOf e) .got ≡ Entry e
     inserted-is-found = got-exactly most _ (insert-keeps most sp s e rights) (tokenOf e) e .1 (insert-holds e .1 (inr refl), refl)
-
-    pub others-as-before-insert : (token : ℕ) → token ≢ tokenOf e → lookedUp (insertOut sp e .words) token .got ≡ lookedUp sp token .got
-    others-as-before-insert token other =
-        answered-as-before most sp _ token s (insert-keeps most sp s e rights)
-        (λ x is. (
-          λ h. ⊎-elim (λ h. h) (λ new. absurd (other (sym is ∙ ap tokenOf new))) (insert-holds x .0 h),
-          λ h. insert-holds x .1 (inl h),
-        ))
 
   -- ---- remove
 

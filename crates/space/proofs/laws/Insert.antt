@@ -14,8 +14,8 @@ use Rattle.table.specs.declared.CapabilityEntry.{CapabilityEntry}
 use Rattle.table.specs.declared.Found.{Found}
 use Rattle.table.specs.declared.Found.the-variants.{At, Absent}
 use Rattle.space.specs.Words.{quotaOf, tableOf}
-use Rattle.space.specs.Lookup.{searchId}
-use Rattle.space.specs.Change.{InsertOut, refused, accepted, isFound, insertOut}
+use Rattle.space.specs.Lookup.{isFound, searchId}
+use Rattle.space.specs.Change.{InsertOut, refused, accepted, insertOut}
 
 module _ (sp : List ℕ) (e : CapabilityEntry) where
   -- There is room under the quota, and the id is not there.

@@ -7,12 +7,5 @@ use Rattle.space.proofs.change.accept.Tie as tie
 pub accept-spec : {M : Type 1} → statement M
 accept-spec =
     tie.close
-    (tie.spec
-    (λ c κs. search needs)
-    (λ c. search needs)
-    (λ c. search needs)
-    (λ c. search needs)
-    (λ c κs. search change-laws)
-    (λ c κs. search needs)
-    (λ c. search needs)
-    (λ c. search change-laws))
+    (tie.spec (λ c κs. search needs) (λ c. search needs) (λ c. search needs) (λ c. search needs) (λ c κs. search change-laws)
+    (λ c κs. search needs) (λ c. search needs) (λ c. search change-laws))

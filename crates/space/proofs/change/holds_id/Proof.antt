@@ -2,7 +2,7 @@
 use mathlib.Core.Path.{ap, _∙_}
 use borrow.Author.Needs.{needs}
 use Rattle.table.specs.declared.Search.{Search}
-use Rattle.space.specs.Change.{isFound}
+use Rattle.space.specs.Lookup.{isFound}
 use Rattle.space.proofs.change.holds_id.Statement.{statement}
 use Rattle.space.proofs.change.holds_id.Tie as tie
 

@@ -10,8 +10,8 @@ use Rattle.base.specs.Choose.{when-yes, when-no}
 use Rattle.table.specs.Slots.{idOf}
 use Rattle.table.specs.declared.CapabilityEntry.{CapabilityEntry}
 use Rattle.space.specs.Words.{quotaOf, tableOf}
-use Rattle.space.specs.Lookup.{searchId}
-use Rattle.space.specs.Change.{refused, insertedTable, inserted, isFound, insertOut}
+use Rattle.space.specs.Lookup.{isFound, searchId}
+use Rattle.space.specs.Change.{refused, insertedTable, inserted, insertOut}
 use Rattle.space.proofs.change.insert.Statement.{statement}
 use Rattle.space.proofs.change.insert.Tie as tie
 
@@ -39,14 +39,5 @@ returns-2 c =
 pub insert-spec : {M : Type 1} → statement M
 insert-spec =
     tie.close
-    (tie.spec
-    (λ c κs. search needs)
-    (λ c κs. search needs)
-    (λ c. search needs)
-    (λ c. search over)
-    (λ c κs. search needs)
-    (λ c. search needs)
-    returns-2
-    (λ c κs. search needs)
-    (λ c. search needs)
-    (λ c. search fresh))
+    (tie.spec (λ c κs. search needs) (λ c κs. search needs) (λ c. search needs) (λ c. search over) (λ c κs. search needs)
+    (λ c. search needs) returns-2 (λ c κs. search needs) (λ c. search needs) (λ c. search fresh))

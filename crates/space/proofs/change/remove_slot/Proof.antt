@@ -13,13 +13,5 @@ remove-at-requires c κs = omega (arith, ap (λ (t : CapTable). t .tombstones) (
 pub remove-slot-spec : {M : Type 1} → statement M
 remove-slot-spec =
     tie.close
-    (tie.spec
-    (λ c κs. search needs)
-    (λ c κs. search needs)
-    (λ c. search needs)
-    (λ c. search needs)
-    (λ c. search needs)
-    remove-at-requires
-    (λ c κs. search needs)
-    (λ c. search needs)
-    (λ c. search change-laws))
+    (tie.spec (λ c κs. search needs) (λ c κs. search needs) (λ c. search needs) (λ c. search needs) (λ c. search needs) remove-at-requires
+    (λ c κs. search needs) (λ c. search needs) (λ c. search change-laws))

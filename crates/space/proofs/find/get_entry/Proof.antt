@@ -7,10 +7,5 @@ use Rattle.space.proofs.find.get_entry.Tie as tie
 pub get-entry-spec : {M : Type 1} → statement M
 get-entry-spec =
     tie.close
-    (tie.spec
-    (λ c κs. search needs)
-    (λ c. search needs)
-    (λ c. search needs)
-    (λ c. search find-laws)
-    (λ c κs. search find-laws)
+    (tie.spec (λ c κs. search needs) (λ c. search needs) (λ c. search needs) (λ c. search find-laws) (λ c κs. search find-laws)
     (λ c. search find-laws))

@@ -1,20 +1,12 @@
 -- `space::find::lookup` meets its contract: a hit with its entry's use, or a miss. Assumes nothing.
 use borrow.Author.Needs.{needs}
-use Rattle.space.proofs.CodeFind.{find-laws}
+use Rattle.space.proofs.CodeFind.{lookup-laws}
 use Rattle.space.proofs.find.lookup.Statement.{statement}
 use Rattle.space.proofs.find.lookup.Tie as tie
 
 pub lookup-spec : {M : Type 1} → statement M
 lookup-spec =
     tie.close
-    (tie.spec
-    (λ c κs. search needs)
-    (λ c. search needs)
-    (λ c. search needs)
-    (λ c κs. search needs)
-    (λ c. search needs)
-    (λ c. search find-laws)
-    (λ c κs. search find-laws)
-    (λ c κs. search find-laws)
-    (λ c. search needs)
-    (λ c. search find-laws))
+    (tie.spec (λ c κs. search needs) (λ c κs. search needs) (λ c. search needs) (λ c. search needs) (λ c κs. search needs)
+    (λ c. search needs) (λ c. search lookup-laws) (λ c κs. search lookup-laws) (λ c κs. search lookup-laws) (λ c κs. search lookup-laws)
+    (λ c. search needs) (λ c. search lookup-laws))

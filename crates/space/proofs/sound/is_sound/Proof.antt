@@ -32,14 +32,5 @@ module _ (most : ℕ) (sp : List ℕ) where
 pub is-sound-spec : {M : Type 1} → statement M
 is-sound-spec =
     tie.close
-    (tie.spec
-    (λ c. search needs)
-    (λ c. search no-generation)
-    (λ c. search needs)
-    (λ c. search no-quota)
-    (λ c. search needs)
-    (λ c. search needs)
-    (λ c. search needs)
-    (λ c κs. search needs)
-    (λ c κs. search needs)
-    (λ c. search rest))
+    (tie.spec (λ c. search needs) (λ c. search no-generation) (λ c. search needs) (λ c. search no-quota) (λ c. search needs)
+    (λ c. search needs) (λ c. search needs) (λ c κs. search needs) (λ c κs. search needs) (λ c. search rest))
