@@ -8,7 +8,7 @@ use borrow.Author.Tests.{lt-ltb, le-ltb}
 use lib.ListN.{length, getD, set, drop, drop-of-length-le}
 use lib.Seq.{drop-cons, set-getD}
 use Rattle.registry.specs.Words.{stateAt}
-use Rattle.registry.specs.Holders.{placeOf, oneMore, oneLess, onState, held, released, heldAll, releasedAll}
+use Rattle.registry.specs.Holders.{placeOf, oneMore, oneLess, onState, held, released, eachId}
 
 -- ---- one id
 
@@ -44,21 +44,13 @@ pub ruleset one-id = (needs, hold-found, hold-none, release-found, release-few, 
 
 -- ---- a list of ids: what is left to do, done, is the answer ys
 
-module _ (places n j : ℕ) (ids rg ys : List ℕ) where
-  pub hold-turn : (rg′ : List ℕ) → heldAll places n (drop j ids) rg ≡ ys → j < length ids → rg′ ≡ held places n (getD ids j 0) rg → heldAll places n (drop (j + 1) ids) rg′ ≡ ys
-  unfolding heldAll
-  hold-turn rg′ e l h = rw (h, add-one) (rw (drop-cons ids j 0 l) at e)
+module _ (change : ℕ → List ℕ → List ℕ) (j : ℕ) (ids rg ys : List ℕ) where
+  pub id-turn : (rg′ : List ℕ) → eachId change (drop j ids) rg ≡ ys → j < length ids → rg′ ≡ change (getD ids j 0) rg → eachId change (drop (j + 1) ids) rg′ ≡ ys
+  unfolding eachId
+  id-turn rg′ e l h = rw (h, add-one) (rw (drop-cons ids j 0 l) at e)
 
-  pub hold-done : heldAll places n (drop j ids) rg ≡ ys → length ids ≤ j → rg ≡ ys
-  unfolding heldAll
-  hold-done e l = rw (drop-of-length-le ids l) at e
+  pub ids-done : eachId change (drop j ids) rg ≡ ys → length ids ≤ j → rg ≡ ys
+  unfolding eachId
+  ids-done e l = rw (drop-of-length-le ids l) at e
 
-  pub release-turn : (rg′ : List ℕ) → releasedAll places n (drop j ids) rg ≡ ys → j < length ids → rg′ ≡ released places n (getD ids j 0) rg → releasedAll places n (drop (j + 1) ids) rg′ ≡ ys
-  unfolding releasedAll
-  release-turn rg′ e l h = rw (h, add-one) (rw (drop-cons ids j 0 l) at e)
-
-  pub release-done : releasedAll places n (drop j ids) rg ≡ ys → length ids ≤ j → rg ≡ ys
-  unfolding releasedAll
-  release-done e l = rw (drop-of-length-le ids l) at e
-
-pub ruleset each-id = (needs, hold-turn, hold-done, release-turn, release-done)
+pub ruleset each-id = (needs, id-turn, ids-done)

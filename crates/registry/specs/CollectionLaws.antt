@@ -23,7 +23,8 @@ use Rattle.registry.specs.Registering.{unregistered, hasChild, unneeded,
 use Rattle.registry.specs.Rules.{RegistryRules}
 use Rattle.base.specs.Distinct.{Among}
 use Rattle.registry.specs.Without.{past, rank, past-below, past-le, past-cases, rank-cases, past-rank, rank-inside}
-use Rattle.registry.specs.RegisteringLaws.{SamePlaces, same-places-refl, same-places-trans, registered-among, length-unregistered, unregistered-id, unregistered-before, unregistered-child, unregistered-linked, unregistered-keeps}
+use Rattle.registry.specs.RegisteringLaws.{SamePlaces, same-places-refl, same-places-trans, registered-among}
+use Rattle.registry.specs.UnregisteringLaws.{length-unregistered, unregistered-id, unregistered-before, unregistered-child, unregistered-linked, unregistered-keeps}
 
 -- Place k has a child exactly if it is named by one of the n links.
 has-child-exactly : (places n : ℕ) (rg : List ℕ) (k : ℕ) → (hasChild places n rg k ≡ true) ↔ Among n (linkAt places rg) (suc k)

@@ -218,9 +218,6 @@ module _ (places n : ℕ) (rg : List ℕ) (r : ℕ) (linked : Linked n (linkAt p
     unfolding descent
     whole = descends n 0 (r ∷ []) (omega arith) (descending-starts n link r inside)
 
-    pub descent-length : length found ≤ n
-    descent-length = found-few n link r (length found) found whole
-
     pub descent-below : AllBelow n found
     descent-below = record { below = λ j l. whole .inside j l .1 }
 

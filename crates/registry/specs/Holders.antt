@@ -33,10 +33,12 @@ unfoldable pub released : ℕ → ℕ → ℕ → List ℕ → List ℕ
 released places n id rg = onState places n id oneLess rg
 
 -- One after the other, for each of a list of ids.
-unfoldable pub heldAll : ℕ → ℕ → List ℕ → List ℕ → List ℕ
-heldAll places n [] rg = rg
-heldAll places n (id ∷ ids) rg = heldAll places n ids (held places n id rg)
+unfoldable pub eachId : (ℕ → List ℕ → List ℕ) → List ℕ → List ℕ → List ℕ
+eachId change [] rg = rg
+eachId change (id ∷ ids) rg = eachId change ids (change id rg)
 
-unfoldable pub releasedAll : ℕ → ℕ → List ℕ → List ℕ → List ℕ
-releasedAll places n [] rg = rg
-releasedAll places n (id ∷ ids) rg = releasedAll places n ids (released places n id rg)
+abbrev pub heldAll : ℕ → ℕ → List ℕ → List ℕ → List ℕ
+heldAll places n ids rg = eachId (held places n) ids rg
+
+abbrev pub releasedAll : ℕ → ℕ → List ℕ → List ℕ → List ℕ
+releasedAll places n ids rg = eachId (released places n) ids rg

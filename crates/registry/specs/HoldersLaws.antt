@@ -14,7 +14,7 @@ use Rattle.base.specs.SumLaws.{one-le}
 use Rattle.base.specs.Distinct.{Differ}
 use Rattle.base.specs.FirstLaws.{first-is, first-passes}
 use Rattle.registry.specs.Words.{idAt, objectAt, stateAt, linkAt, recycledAt, revoked, listed, holders}
-use Rattle.registry.specs.Holders.{placeOf, onState, oneMore, oneLess, held, released, heldAll, releasedAll}
+use Rattle.registry.specs.Holders.{placeOf, onState, oneMore, oneLess, held, released, eachId, heldAll, releasedAll}
 use Rattle.registry.specs.Rules.{RegisteredRules, RecycledRules, Same, differ-same, registered-same, recycled-same}
 
 -- ---- what stays
@@ -167,27 +167,27 @@ unfoldable pub count : ℕ → List ℕ → ℕ
 count x [] = 0
 count x (y ∷ ys) = one (eqb x y) + count x ys
 
+module _ (places : ℕ) (change : ℕ → List ℕ → List ℕ)
+    (once : (id : ℕ) (rg : List ℕ) → 5 * places + 1 ≤ length rg → HoldersOnly places rg (change id rg)) where
+  each-only : (ids rg : List ℕ) → 5 * places + 1 ≤ length rg → HoldersOnly places rg (eachId change ids rg)
+  unfolding eachId
+  each-only [] rg long = holders-only-refl places rg
+  each-only (id ∷ ids) rg long =
+      let rg′ : List ℕ = change id rg in
+      let only : HoldersOnly places rg rg′ = once id rg long in
+      holders-only-trans places rg rg′ (eachId change ids rg′) only (each-only ids rg′ (omega (arith, only .same-length)))
+
 module _ (places n : ℕ) (fit : n ≤ places) where
   pub held-all-only : (ids rg : List ℕ) → 5 * places + 1 ≤ length rg → HoldersOnly places rg (heldAll places n ids rg)
-  unfolding heldAll
-  held-all-only [] rg long = holders-only-refl places rg
-  held-all-only (id ∷ ids) rg long =
-      let rg′ : List ℕ = held places n id rg in
-      let only : HoldersOnly places rg rg′ = held-only places n rg fit long id in
-      holders-only-trans places rg rg′ (heldAll places n ids rg′) only (held-all-only ids rg′ (omega (arith, only .same-length)))
+  held-all-only = each-only places (held places n) (λ id rg long. held-only places n rg fit long id)
 
   pub released-all-only : (ids rg : List ℕ) → 5 * places + 1 ≤ length rg → HoldersOnly places rg (releasedAll places n ids rg)
-  unfolding releasedAll
-  released-all-only [] rg long = holders-only-refl places rg
-  released-all-only (id ∷ ids) rg long =
-      let rg′ : List ℕ = released places n id rg in
-      let only : HoldersOnly places rg rg′ = released-only places n rg fit long id in
-      holders-only-trans places rg rg′ (releasedAll places n ids rg′) only (released-all-only ids rg′ (omega (arith, only .same-length)))
+  released-all-only = each-only places (released places n) (λ id rg long. released-only places n rg fit long id)
 
   module _ (k : ℕ) (l : k < n) where
     pub held-all-holders : (ids rg : List ℕ) → 5 * places + 1 ≤ length rg → Differ n (idAt rg) → holders (stateAt places rg k) + length ids < 2 ^ 62
         → holders (stateAt places (heldAll places n ids rg) k) ≡ holders (stateAt places rg k) + count (idAt rg k) ids
-    unfolding heldAll count
+    unfolding eachId count
     held-all-holders [] rg long differ room = omega arith
     held-all-holders (id ∷ ids) rg long differ room =
         let rg′ : List ℕ = held places n id rg in
@@ -201,7 +201,7 @@ module _ (places n : ℕ) (fit : n ≤ places) where
 
     pub released-all-holders : (ids rg : List ℕ) → 5 * places + 1 ≤ length rg → Differ n (idAt rg)
         → holders (stateAt places (releasedAll places n ids rg) k) ≡ holders (stateAt places rg k) - count (idAt rg k) ids
-    unfolding releasedAll count
+    unfolding eachId count
     released-all-holders [] rg long differ = omega arith
     released-all-holders (id ∷ ids) rg long differ =
         let rg′ : List ℕ = released places n id rg in

@@ -65,9 +65,6 @@ module _ (places m : ℕ) (rg : List ℕ) (some : 0 < m) (fit : m ≤ places + 1
         issued = λ k l. rw (taken-recycled k (omega arith)) (rules .issued (suc k) (omega arith));
       }
 
-      pub taken-issued : (1 ≤ recycledAt places rg 0) × (recycledAt places rg 0 < next)
-      taken-issued = rules .issued 0 some
-
       pub taken-unregistered : (k : ℕ) → k < n → recycledAt places rg 0 ≡ idAt (firstTaken places m rg) k → ⊥
       taken-unregistered k l e = rules .unregistered 0 some k l (e ∙ taken-columns k (omega arith))
 

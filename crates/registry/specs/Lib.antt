@@ -12,6 +12,7 @@ pub mod IdsLaws
 pub mod Registering
 pub mod Without
 pub mod RegisteringLaws
+pub mod UnregisteringLaws
 pub mod CollectionLaws
 pub mod Children
 pub mod ChildrenLength

@@ -4,7 +4,7 @@
 use mathlib.Core.Bool.{Bool, true, not}
 use mathlib.Core.List.{List}
 use mathlib.Core.Path.{_≡_}
-use Prim.Native.Nat.{ℕ, suc, _+_, _≤_, _<_, pred}
+use Prim.Native.Nat.{ℕ, suc, _≤_, _<_, pred}
 use lib.Dec.{leb, ltb, eqb}
 use Rattle.base.specs.Below.{all}
 use Rattle.base.specs.Choose.{pick, both}

@@ -2,15 +2,14 @@
 use mathlib.Core.Path.{_≡_}
 use mathlib.Core.Logic.{_↔_, Iff·rfl, by-cases}
 use mathlib.Core.Bool.{Bool, true}
-use Prim.Native.Nat.{ℕ, suc, _<_, _≤_, pred}
+use Prim.Native.Nat.{ℕ, suc, _≤_, pred}
 use native.Mathlib.Decide.{ℕ-discrete}
 use native.Mathlib.Omega.{arith}
 use lib.Dec.{eqb, leb}
-use Rattle.base.specs.AllLaws.{all-ext}
 use Rattle.base.specs.Choose.{pick}
 use Rattle.base.specs.Exactly.{some-exactly, eqb-exactly, leb-exactly, all-exactly, tests}
-use Rattle.registry.specs.Words.{revoked, listed, holders}
-use Rattle.registry.specs.Sound.{Issued, issuedTest, Ascend, ascendTest, Unregistered, unregisteredTest, Linked, linkedTest, Listed, listedTest, Short, shortTest, Cascaded, cascadedTest, Held, withinTest, heldTest}
+use Rattle.registry.specs.Words.{revoked, listed}
+use Rattle.registry.specs.Sound.{Issued, issuedTest, Ascend, ascendTest, Unregistered, unregisteredTest, Linked, linkedTest, Listed, listedTest, Short, shortTest, Cascaded, cascadedTest, Held, heldTest}
 
 pub issued-exactly : (n : ℕ) (id : ℕ → ℕ) (next : ℕ) → (issuedTest n id next ≡ true) ↔ Issued n id next
 issued-exactly n id next = simp tests Iff·rfl
@@ -51,8 +50,3 @@ cascaded-exactly n link state =
 
 pub held-exactly : (n : ℕ) (id state spaces : ℕ → ℕ) → (heldTest n id state spaces ≡ true) ↔ Held n id state spaces
 held-exactly n id state spaces = simp tests Iff·rfl
-
--- Counts by place serve for the spaces of each id.
-pub held-counted : (n : ℕ) (id state spaces count : ℕ → ℕ) → ((k : ℕ) → k < n → count k ≡ spaces (id k)) → withinTest n state count ≡ heldTest n id state spaces
-held-counted n id state spaces count e =
-    all-ext n (λ k. leb (holders (state k)) (count k)) (λ k. leb (holders (state k)) (spaces (id k))) (λ k l. rw (e k l))

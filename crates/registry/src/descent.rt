@@ -41,7 +41,10 @@ fn list_each(rg: &[u64], places: usize, n: usize, firsts: &mut [u16], nexts: &mu
 fn append(nexts: &[u16], head: u16, order: &mut [u16], count: usize) -> usize
     requires { ⌜ (head ≤ length (now nexts)) × (length (now nexts) ≤ 4096) × (count ≤ length (now order)) ⌝ }
     requires { ⌜ AtMost (length (now nexts)) (now nexts) ⌝ }
-    ensures { λ r. ⌜ take r (now (order .exit)) ≡ take count (now (order .entry)) ++ listFrom (now (nexts .entry)) (length (now (order .entry)) - count) head ⌝ }
+    ensures { λ r. ⌜
+        take r (now (order .exit))
+        ≡ take count (now (order .entry)) ++ listFrom (now (nexts .entry)) (length (now (order .entry)) - count) head
+        ⌝ }
     ensures { λ r. ⌜ r ≤ length (now (order .entry)) ⌝ }
 {
     let mut at = head as usize;

@@ -168,7 +168,9 @@ pub fn registry_sound(
     requires { ⌜ (n ≤ places) × (m ≤ places + 1) × (places ≤ 4095) × (5 * places + 1 ≤ length (now rg)) ⌝ }
     requires { ⌜ Chained (take n (now rg)) (now heads) (now prevs) 0 ⌝ }
     ensures { λ r. ⌜ r ≡ registryTest places n m next (now (rg .entry)) ⌝ }
-    ensures { λ r. ⌜ (r ≡ true → Chained (take n (now (rg .entry))) (now (heads .exit)) (now (prevs .exit)) (length (take n (now (rg .entry))))) ⌝ }
+    ensures { λ r. ⌜
+        (r ≡ true → Chained (take n (now (rg .entry))) (now (heads .exit)) (now (prevs .exit)) (length (take n (now (rg .entry)))))
+        ⌝ }
 {
     if index(&rg[..n], heads, prevs) {
         return passes_sound(rg, places, n, m, next, heads, prevs);
@@ -217,7 +219,10 @@ pub fn count_entries(ids: &[u64], heads: &[u16], prevs: &[u16], entries: &[u64],
     requires { ⌜ Chained (now ids) (now heads) (now prevs) (length (now ids)) ⌝ }
     requires { ⌜ (length (now ids) ≤ length (now counts)) × (length (now entries) ≤ 512) ⌝ }
     requires { ⌜ AtMost 65023 (now counts) ⌝ }
-    ensures { λ r. ⌜ now (counts .exit) ≡ countEntries (now (ids .entry)) (now (entries .entry)) (length (now (entries .entry))) (now (counts .entry)) ⌝ }
+    ensures { λ r. ⌜
+        now (counts .exit)
+        ≡ countEntries (now (ids .entry)) (now (entries .entry)) (length (now (entries .entry))) (now (counts .entry))
+        ⌝ }
 {
     let mut j = 0;
     while j < entries.len() {

@@ -102,7 +102,10 @@ fn unneeded(rg: &[u64], places: usize, p: usize, n: usize, k: usize) -> bool
 // The children of place p with no children and no holders leave; answers how many ids are left.
 pub fn collect(rg: &mut [u64], places: usize, p: usize, n: usize) -> usize
     requires { ⌜ (p ≤ places) × (n ≤ places) × (places ≤ 4095) × (5 * places + 1 ≤ length (now rg)) ⌝ }
-    ensures { λ r. ⌜ (r ≡ collected places p n (now (rg .entry)) .left) × (now (rg .exit) ≡ collected places p n (now (rg .entry)) .words) ⌝ }
+    ensures { λ r. ⌜
+        (r ≡ collected places p n (now (rg .entry)) .left)
+        × (now (rg .exit) ≡ collected places p n (now (rg .entry)) .words)
+        ⌝ }
 {
     let mut left = n;
     let mut k = n;

@@ -10,7 +10,7 @@ use native.Mathlib.Omega.{arith}
 use borrow.Author.Tests.{eqb-true, eq-eqb}
 use lib.Dec.{eqb, ltb}
 use lib.ListN.{length, take, drop, length-append, length-take, length-drop, List·getD-append}
-use lib.Seq.{length-take-le, take-at, drop-at, drop-drop, getD-take, getD-drop}
+use lib.Seq.{length-take-le, take-at, drop-at, getD-take, getD-drop}
 use Rattle.base.specs.Choose.{pick}
 use Rattle.base.specs.Distinct.{Differ, Among}
 use Rattle.base.specs.FirstLaws.{first-some-exactly, first-ext}
@@ -83,10 +83,6 @@ module _ (n : ℕ) (pairs lg : List ℕ) (fits : n + length pairs ≤ length lg)
   pub appended-in : (j : ℕ) → j < length pairs → pairAt (appended n pairs lg) (n + j) ≡ pairAt pairs j
   appended-in j l = rw (← getD-drop n (appended n pairs lg) j 0, behind, List·getD-append)
 
-  -- and the places behind them are as they were.
-  pub drop-appended : drop (n + length pairs) (appended n pairs lg) ≡ drop (n + length pairs) lg
-  drop-appended = rw (← drop-drop (length pairs) n (appended n pairs lg), behind, drop-at)
-
   -- The two kinds of a place below n + length pairs.
   where-from : (k : ℕ) → k < n + length pairs → (k < n) ⊎ ((j : ℕ) × ((j < length pairs) × (n + j ≡ k)))
   where-from k l = by-cases (decLt k n) inl (λ u. inr (k - n, (omega arith, omega arith)))
@@ -158,16 +154,6 @@ module _ (n : ℕ) (lg : List ℕ) where
   pub absent-one : (pair : ℕ) → absentOf n lg (pair ∷ []) ≡ pick (logHas n lg pair) [] (pair ∷ [])
   unfolding absentOf
   absent-one pair = refl
-
-  pub absent-length : (pairs : List ℕ) → length (absentOf n lg pairs) ≤ length pairs
-  unfolding absentOf
-  absent-length [] = omega arith
-  absent-length (x ∷ pairs) = go (logHas n lg x) (absent-length pairs)
-    where
-      go : (b : Bool) → length (absentOf n lg pairs) ≤ length pairs
-          → length (pick b (absentOf n lg pairs) (x ∷ absentOf n lg pairs)) ≤ suc (length pairs)
-      go true ih = omega arith
-      go false ih = omega arith
 
   -- They are those of the pairs that the log has not.
   pub absent-exactly : (pairs : List ℕ) (pair : ℕ) → OneOf (absentOf n lg pairs) pair ↔ (OneOf pairs pair × (logHas n lg pair ≡ false))
@@ -245,9 +231,6 @@ module _ (n : ℕ) (pairs lg : List ℕ) (fits : joinedCount n pairs lg ≤ leng
       sort : OneOf pairs pair → (b : Bool) → logHas n lg pair ≡ b → (logHas n lg pair ≡ true) ⊎ OneOf (absentOf n lg pairs) pair
       sort among true e = inl e
       sort among false e = inr (absent-exactly n lg pairs pair .1 (among, e))
-
-  pub pairs-joined : Pairs n (pairAt lg) → Pairs (length pairs) (pairAt pairs) → Pairs (joinedCount n pairs lg) (pairAt (joined n pairs lg))
-  pairs-joined old coded = pairs-appended n (absentOf n lg pairs) lg fits old (absent-pairs n lg pairs coded)
 
   pub differ-joined : Differ n (pairAt lg) → Differ (length pairs) (pairAt pairs) → Differ (joinedCount n pairs lg) (pairAt (joined n pairs lg))
   differ-joined old differ =

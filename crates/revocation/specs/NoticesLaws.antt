@@ -10,8 +10,8 @@ use native.Mathlib.Omega.{arith}
 use lib.ListN.{length, drop, length-append, length-drop}
 use lib.Seq.{drop-append-le, drop-drop}
 use Rattle.revocation.specs.Words.{firstOf, lengthOf}
-use Rattle.revocation.specs.Queue.{pushed, begun, freed, noticesFrom, notices}
-use Rattle.revocation.specs.QueueLaws.{Notice, notice, noticeAt, length-pushed, length-grows, notice-stays, newest-behind, length-stays, notice-moves, newest-over, first-pushed, short-pushed, length-of-begun, notice-begun, length-of-freed}
+use Rattle.revocation.specs.Queue.{pushed, begun, noticesFrom, notices}
+use Rattle.revocation.specs.QueueLaws.{Notice, notice, noticeAt, length-pushed, length-grows, notice-stays, newest-behind, length-stays, notice-moves, newest-over, first-pushed, short-pushed, length-of-begun, notice-begun}
 
 pub length-notices-from : (qu : List ℕ) (i m : ℕ) → length (noticesFrom qu i m) ≡ 3 * m
 unfolding noticesFrom
@@ -54,10 +54,6 @@ notices-more qu (suc m) i =
 pub notices-begun : (pid id time reason : ℕ) (qu : List ℕ) → 771 ≤ length qu → notices (begun pid id time reason qu) ≡ id ∷ time ∷ reason ∷ []
 unfolding notices noticesFrom
 notices-begun pid id time reason qu long = rw (length-of-begun pid id time reason qu long) (ap wordsOf (notice-begun pid id time reason qu long))
-
-pub notices-freed : (qu : List ℕ) → 771 ≤ length qu → notices (freed qu) ≡ []
-unfolding notices noticesFrom
-notices-freed qu long = rw (length-of-freed qu long)
 
 -- Without its oldest notice.
 oldest-gone : (qu ws : List ℕ) (m i : ℕ) → drop 3 (noticesFrom qu i (m + 1) ++ ws) ≡ noticesFrom qu (i + 1) m ++ ws

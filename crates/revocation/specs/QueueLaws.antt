@@ -221,10 +221,6 @@ pub length-of-freed : (qu : List ℕ) → 771 ≤ length qu → lengthOf (freed 
 unfolding freed
 length-of-freed qu long = getD-set-same qu 2 0 0 (omega arith)
 
-pub freed-others : (qu : List ℕ) (i : ℕ) → i ≢ 2 → getD (freed qu) i 0 ≡ getD qu i 0
-unfolding freed
-freed-others qu i other = getD-set-other qu 2 i 0 0 other
-
 -- ---- sound queues stay so
 
 pub begun-sound : (pid id time reason : ℕ) (qu : List ℕ) → 771 ≤ length qu → reason ≤ 3 → SoundQueue (begun pid id time reason qu)

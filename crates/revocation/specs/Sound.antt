@@ -8,7 +8,7 @@ use lib.Dec.{leb, ltb, eqb}
 use Rattle.base.specs.Below.{all}
 use Rattle.base.specs.Choose.{pick, both}
 use Rattle.base.specs.Distinct.{differTest}
-use Rattle.revocation.specs.Words.{pairAt, queueAt, pidAt, lengthAt, pidOf, firstOf, lengthOf, reasonAt}
+use Rattle.revocation.specs.Words.{pairAt, queueAt, pidAt, lengthAt, firstOf, lengthOf, reasonAt}
 
 -- Coded fields hold listed values: a pair has a 48-bit id and an 8-bit generation.
 abbrev pub Pairs : ℕ → (ℕ → ℕ) → Type 0

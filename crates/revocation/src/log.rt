@@ -40,7 +40,10 @@ fn has_indexed(lg: &[u64], heads: &[u16], prevs: &[u16], pair: u64) -> bool
 fn keep_by_index(lg: &[u64], heads: &[u16], prevs: &[u16], pairs: &mut [u64], count: usize) -> usize
     requires { ⌜ Chained (now lg) (now heads) (now prevs) (length (now lg)) ⌝ }
     requires { ⌜ count ≤ length (now pairs) ⌝ }
-    ensures { λ r. ⌜ take r (now (pairs .exit)) ≡ absentOf (length (now (lg .entry))) (now (lg .entry)) (take count (now (pairs .entry))) ⌝ }
+    ensures { λ r. ⌜
+        take r (now (pairs .exit))
+        ≡ absentOf (length (now (lg .entry))) (now (lg .entry)) (take count (now (pairs .entry)))
+        ⌝ }
     ensures { λ r. ⌜ (r ≤ count) × (drop r (now (pairs .exit)) ≡ drop r (now (pairs .entry))) ⌝ }
 {
     let mut kept = 0;
@@ -69,7 +72,10 @@ fn keep_indexing(
     requires { ⌜ Chained (now lg) (now heads) (now prevs) 0 ⌝ }
     requires { ⌜ (length (now lg) ≤ 8192) × (count ≤ length (now pairs)) ⌝ }
     requires { ⌜ Differ (length (now lg)) (pairAt (now lg)) ⌝ }
-    ensures { λ r. ⌜ take r (now (pairs .exit)) ≡ absentOf (length (now (lg .entry))) (now (lg .entry)) (take count (now (pairs .entry))) ⌝ }
+    ensures { λ r. ⌜
+        take r (now (pairs .exit))
+        ≡ absentOf (length (now (lg .entry))) (now (lg .entry)) (take count (now (pairs .entry)))
+        ⌝ }
     ensures { λ r. ⌜ (r ≤ count) × (drop r (now (pairs .exit)) ≡ drop r (now (pairs .entry))) ⌝ }
 {
     index(lg, heads, prevs);

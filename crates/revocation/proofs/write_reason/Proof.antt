@@ -1,5 +1,4 @@
 -- `revocation::write_reason` meets its contract: in each arm the reason is the arm's case, whose name is by definition the arm's.
--- Assumes nothing.
 use mathlib.Core.Path.{_≡_}
 use mathlib.Core.List.{List}
 use Prim.Native.Nat.{ℕ, _≤_}

@@ -1,5 +1,4 @@
 -- `registry::children::parents` meets its contract: the flags of the places before k are counted.
--- Assumes nothing.
 use mathlib.Core.Path.{refl}
 use Prim.Native.Nat.{_-_}
 use native.Mathlib.Omega.{arith}
@@ -28,16 +27,5 @@ returns c = search laws
 pub parents-spec : {M : Type 1} → statement M
 parents-spec =
     tie.close
-    (tie.spec
-    Inv-loop
-    μ-loop
-    (λ c. search laws)
-    (λ c. search laws)
-    (λ c. search laws)
-    (λ c. search laws)
-    (λ c. search laws)
-    (λ c. search laws)
-    (λ c. search laws)
-    (λ c. search laws)
-    loop-again
-    returns)
+    (tie.spec Inv-loop μ-loop (λ c. search laws) (λ c. search laws) (λ c. search laws) (λ c. search laws) (λ c. search laws)
+    (λ c. search laws) (λ c. search laws) (λ c. search laws) loop-again returns)

@@ -1,5 +1,4 @@
 -- `registry::children::strays` meets its contract: those of the ids before j that have no place are counted.
--- Assumes nothing.
 use mathlib.Core.Path.{_≡_, refl, ap, _∙_}
 use mathlib.Core.Logic.{_≢_, ⊎-elim}
 use mathlib.Core.Bool.{not}
@@ -71,15 +70,5 @@ returns c = counting-ends _ _ _ _ (c .before .loop .inv) (c .loop-test .left) �
 pub strays-spec : {M : Type 1} → statement M
 strays-spec =
     tie.close
-    (tie.spec
-    Inv-loop
-    μ-loop
-    (λ c. search laws)
-    (λ c. search laws)
-    (λ c. search laws)
-    (λ c κs. search laws)
-    (λ c. search laws)
-    (λ c. search laws)
-    (λ c. search laws)
-    loop-again
-    returns)
+    (tie.spec Inv-loop μ-loop (λ c. search laws) (λ c. search laws) (λ c. search laws) (λ c κs. search laws) (λ c. search laws)
+    (λ c. search laws) (λ c. search laws) loop-again returns)

@@ -1,5 +1,4 @@
 -- `registry::descent::descend` meets its contract: with the children of the places from `at` on behind those found, it becomes the answer.
--- Assumes nothing.
 use mathlib.Core.Path.{_≡_, refl, ap, _∙_}
 use mathlib.Core.List.{List, [], _∷_, _++_}
 use Prim.Native.Nat.{ℕ, zero, suc, _+_, _-_, _<_, _≤_}
@@ -155,24 +154,6 @@ same-length c = c .before .loop .inv .same ∙ simp length-set
 pub descend-spec : {M : Type 1} → statement M
 descend-spec =
     tie.close
-    (tie.spec
-    Inv-loop
-    μ-loop
-    (λ c. search laws)
-    (λ c. search laws)
-    list-each-requires
-    (λ c. search laws)
-    (λ c. search laws)
-    (λ c. search laws)
-    (λ c. search laws)
-    (λ c. search laws)
-    cast-p
-    (λ c. search laws)
-    mul-append
-    array-read-append
-    append-requires
-    (λ c. search laws)
-    (λ c. search laws)
-    (λ c. search laws)
-    same-length
-    (λ c. search laws))
+    (tie.spec Inv-loop μ-loop (λ c. search laws) (λ c. search laws) list-each-requires (λ c. search laws) (λ c. search laws)
+    (λ c. search laws) (λ c. search laws) (λ c. search laws) cast-p (λ c. search laws) mul-append array-read-append append-requires
+    (λ c. search laws) (λ c. search laws) (λ c. search laws) same-length (λ c. search laws))

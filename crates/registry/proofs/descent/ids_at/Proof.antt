@@ -1,6 +1,5 @@
 -- `registry::descent::ids_at` meets its contract: with the ids of the places from j on written behind those before, the area becomes the
 -- answer.
--- Assumes nothing.
 use mathlib.Core.Path.{_≡_, refl, _∙_}
 use mathlib.Core.List.{List}
 use Prim.Native.Nat.{ℕ, _+_, _-_, _<_, _≤_}
@@ -53,17 +52,5 @@ ruleset laws = (needs, all-below-at, starts, turn, done)
 pub ids-at-spec : {M : Type 1} → statement M
 ids-at-spec =
     tie.close
-    (tie.spec
-    Inv-loop
-    μ-loop
-    (λ c. search laws)
-    (λ c. search laws)
-    (λ c. search laws)
-    (λ c κs. search laws)
-    (λ c. search laws)
-    (λ c. search laws)
-    (λ c. search laws)
-    (λ c. search laws)
-    (λ c. search laws)
-    (λ c. search laws)
-    (λ c. search laws))
+    (tie.spec Inv-loop μ-loop (λ c. search laws) (λ c. search laws) (λ c. search laws) (λ c κs. search laws) (λ c. search laws)
+    (λ c. search laws) (λ c. search laws) (λ c. search laws) (λ c. search laws) (λ c. search laws) (λ c. search laws))

@@ -1,5 +1,4 @@
 -- `registry::descent::mark` meets its contract: with the places from j on marked, what is done so far becomes the answer.
--- Assumes nothing.
 use mathlib.Core.Path.{_≡_}
 use mathlib.Core.List.{List, [], _∷_}
 use Prim.Native.Nat.{ℕ, _+_, _-_, _<_, _≤_}
@@ -32,15 +31,5 @@ ruleset laws = (needs, all-below-at, turn, done)
 pub mark-spec : {M : Type 1} → statement M
 mark-spec =
     tie.close
-    (tie.spec
-    Inv-loop
-    μ-loop
-    (λ c. search laws)
-    (λ c. search laws)
-    (λ c. search laws)
-    (λ c κs. search laws)
-    (λ c. search laws)
-    (λ c. search laws)
-    (λ c. search laws)
-    (λ c. search laws)
-    (λ c. search laws))
+    (tie.spec Inv-loop μ-loop (λ c. search laws) (λ c. search laws) (λ c. search laws) (λ c κs. search laws) (λ c. search laws)
+    (λ c. search laws) (λ c. search laws) (λ c. search laws) (λ c. search laws))

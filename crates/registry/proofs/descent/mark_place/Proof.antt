@@ -1,5 +1,4 @@
 -- `registry::descent::mark_place` meets its contract: half of a state is that of a word, so twice that and one is a word.
--- Assumes nothing.
 use mathlib.Core.Path.{_≡_}
 use mathlib.Core.List.{List, [], _∷_}
 use Prim.Native.Nat.{ℕ, _+_, _*_, _/_}
@@ -27,14 +26,5 @@ add-rg c = let args = c .before .args in omega (arith, c .slice-known .given (2 
 pub mark-place-spec : {M : Type 1} → statement M
 mark-place-spec =
     tie.close
-    (tie.spec
-    (λ c. search laws)
-    (λ c. search laws)
-    (λ c. search laws)
-    (λ c. search laws)
-    mul-rg-2
-    add-rg
-    (λ c. search laws)
-    (λ c. search laws)
-    (λ c. search laws)
-    (λ c. search laws))
+    (tie.spec (λ c. search laws) (λ c. search laws) (λ c. search laws) (λ c. search laws) mul-rg-2 add-rg (λ c. search laws)
+    (λ c. search laws) (λ c. search laws) (λ c. search laws))

@@ -1,5 +1,4 @@
 -- `registry::holders::hold` meets its contract: the state where the id was found goes up by one holder.
--- Assumes nothing.
 use Rattle.registry.proofs.Holding.{one-id}
 use Rattle.registry.proofs.holders.hold.Statement.{statement}
 use Rattle.registry.proofs.holders.hold.Tie as tie
@@ -7,16 +6,6 @@ use Rattle.registry.proofs.holders.hold.Tie as tie
 pub hold-spec : {M : Type 1} → statement M
 hold-spec =
     tie.close
-    (tie.spec
-    (λ c κs. search one-id)
-    (λ c. search one-id)
-    (λ c. search one-id)
-    (λ c. search one-id)
-    (λ c. search one-id)
-    (λ c κs. search one-id)
-    (λ c. search one-id)
-    (λ c. search one-id)
-    (λ c. search one-id)
-    (λ c. search one-id)
-    (λ c. search one-id)
+    (tie.spec (λ c κs. search one-id) (λ c. search one-id) (λ c. search one-id) (λ c. search one-id) (λ c. search one-id)
+    (λ c κs. search one-id) (λ c. search one-id) (λ c. search one-id) (λ c. search one-id) (λ c. search one-id) (λ c. search one-id)
     (λ c. search one-id))

@@ -1,5 +1,4 @@
 -- `registry::holders::hold_all` meets its contract: with the ids from j on, what is done so far becomes the answer.
--- Assumes nothing.
 use mathlib.Core.Path.{_≡_}
 use Prim.Native.Nat.{_-_, _≤_}
 use lib.ListN.{length, drop}
@@ -17,15 +16,5 @@ abbrev μ-loop : tie.MeasureT-loop
 pub hold-all-spec : {M : Type 1} → statement M
 hold-all-spec =
     tie.close
-    (tie.spec
-    Inv-loop
-    μ-loop
-    (λ c. search each-id)
-    (λ c. search each-id)
-    (λ c. search each-id)
-    (λ c κs. search each-id)
-    (λ c. search each-id)
-    (λ c. search each-id)
-    (λ c. search each-id)
-    (λ c. search each-id)
-    (λ c. search each-id))
+    (tie.spec Inv-loop μ-loop (λ c. search each-id) (λ c. search each-id) (λ c. search each-id) (λ c κs. search each-id)
+    (λ c. search each-id) (λ c. search each-id) (λ c. search each-id) (λ c. search each-id) (λ c. search each-id))

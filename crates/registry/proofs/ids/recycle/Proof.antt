@@ -1,5 +1,4 @@
 -- `registry::ids::recycle` meets its contract: room is made where the id joins, and it is written there.
--- Assumes nothing.
 use borrow.Author.Needs.{needs}
 use Rattle.registry.specs.Ids.{recycledWith}
 use Rattle.registry.proofs.ids.recycle.Statement.{statement}
@@ -12,14 +11,5 @@ returns c = cc
 pub recycle-spec : {M : Type 1} → statement M
 recycle-spec =
     tie.close
-    (tie.spec
-    (λ c. search needs)
-    (λ c κs. search needs)
-    (λ c. search needs)
-    (λ c. search needs)
-    (λ c. search needs)
-    (λ c κs. search needs)
-    (λ c. search needs)
-    (λ c. search needs)
-    (λ c. search needs)
-    returns)
+    (tie.spec (λ c. search needs) (λ c κs. search needs) (λ c. search needs) (λ c. search needs) (λ c. search needs) (λ c κs. search needs)
+    (λ c. search needs) (λ c. search needs) (λ c. search needs) returns)

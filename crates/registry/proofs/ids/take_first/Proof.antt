@@ -1,5 +1,4 @@
 -- `registry::ids::take_first` meets its contract: the smallest of the recycled ids is the first, and the others move down over it.
--- Assumes nothing.
 use native.Mathlib.Nat.{add-zero}
 use borrow.Author.Needs.{needs}
 use Rattle.registry.specs.Ids.{firstTaken}
@@ -13,11 +12,5 @@ returns c = (cc, rw add-zero)
 pub take-first-spec : {M : Type 1} → statement M
 take-first-spec =
     tie.close
-    (tie.spec
-    (λ c. search needs)
-    (λ c. search needs)
-    (λ c. search needs)
-    (λ c. search needs)
-    (λ c κs. search needs)
-    (λ c. search needs)
+    (tie.spec (λ c. search needs) (λ c. search needs) (λ c. search needs) (λ c. search needs) (λ c κs. search needs) (λ c. search needs)
     returns)

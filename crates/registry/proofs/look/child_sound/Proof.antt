@@ -1,5 +1,4 @@
 -- `registry::look::child_sound` meets its contract: one test after the other.
--- Assumes nothing.
 use borrow.Author.Tests.{eq-eqb, ne-eqb}
 use Rattle.registry.proofs.look.child_sound.Statement.{statement}
 use Rattle.registry.proofs.look.child_sound.Tie as tie

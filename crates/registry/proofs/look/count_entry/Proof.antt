@@ -1,5 +1,4 @@
 -- `registry::look::count_entry` meets its contract: the place that the index answers has a counter, and it has room.
--- Assumes nothing.
 use mathlib.Core.Path.{_≡_, sym, _∙_}
 use mathlib.Core.List.{List}
 use Prim.Native.Nat.{ℕ, _<_}
@@ -49,14 +48,5 @@ returns-2 c = absent _ _ _ _ (c .before .before .place-of .ensures) (c .enum-tol
 pub count-entry-spec : {M : Type 1} → statement M
 count-entry-spec =
     tie.close
-    (tie.spec
-    (λ c κs. search needs)
-    (λ c. search needs)
-    mul-counts
-    slice-read-counts
-    add-counts
-    slice-write-counts
-    (λ c. search needs)
-    (λ c. search needs)
-    returns
-    returns-2)
+    (tie.spec (λ c κs. search needs) (λ c. search needs) mul-counts slice-read-counts add-counts slice-write-counts (λ c. search needs)
+    (λ c. search needs) returns returns-2)

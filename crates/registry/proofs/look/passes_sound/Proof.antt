@@ -1,5 +1,4 @@
 -- `registry::look::passes_sound` meets its contract: one pass after the other.
--- Assumes nothing.
 use borrow.Author.Needs.{needs}
 use Rattle.base.specs.Choose.{both-goes, both-stops}
 use Rattle.registry.specs.Look.{passesTest}

@@ -1,5 +1,4 @@
 -- `registry::look::place_sound` meets its contract: its tests are those of `placeTest`, with the child's two asked where there is a parent.
--- Assumes nothing.
 use mathlib.Core.Path.{_≡_}
 use mathlib.Core.Logic.{_≢_}
 use mathlib.Core.Bool.{Bool, true, false}
@@ -48,25 +47,7 @@ ruleset laws = (needs, zero-id, not-issued, later-parent, no-parent, parent)
 pub place-sound-spec : {M : Type 1} → statement M
 place-sound-spec =
     tie.close
-    (tie.spec
-    (λ c. search needs)
-    (λ c. search needs)
-    (λ c. search laws)
-    (λ c. search laws)
-    (λ c. search needs)
-    (λ c. search needs)
-    (λ c. search needs)
-    (λ c. search needs)
-    (λ c. search laws)
-    (λ c. search laws)
-    (λ c. search needs)
-    (λ c. search needs)
-    (λ c. search needs)
-    (λ c. search needs)
-    (λ c. search needs)
-    (λ c. search needs)
-    (λ c. search needs)
-    (λ c. search needs)
-    (λ c. search needs)
-    (λ c κs. search needs)
-    (λ c. search laws))
+    (tie.spec (λ c. search needs) (λ c. search needs) (λ c. search laws) (λ c. search laws) (λ c. search needs) (λ c. search needs)
+    (λ c. search needs) (λ c. search needs) (λ c. search laws) (λ c. search laws) (λ c. search needs) (λ c. search needs)
+    (λ c. search needs) (λ c. search needs) (λ c. search needs) (λ c. search needs) (λ c. search needs) (λ c. search needs)
+    (λ c. search needs) (λ c κs. search needs) (λ c. search laws))

@@ -1,5 +1,4 @@
 -- `registry::look::places_sound` meets its contract: fresh counters have counted nothing.
--- Assumes nothing.
 use native.Mathlib.Omega.{arith}
 use borrow.Author.Needs.{needs}
 use Rattle.registry.specs.Counts.{counted-none}

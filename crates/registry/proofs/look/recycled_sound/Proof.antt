@@ -1,5 +1,4 @@
 -- `registry::look::recycled_sound` meets its contract: the recycled ids before j keep their rules, and `last` is the one before j.
--- Assumes nothing.
 use mathlib.Core.Path.{_≡_, refl, sym, _∙_}
 use mathlib.Core.Bool.{Bool, true, false}
 use mathlib.Core.List.{List}
@@ -67,19 +66,6 @@ ruleset laws = (needs, starts, ends, not-above, not-issued, registered, goes)
 pub recycled-sound-spec : {M : Type 1} → statement M
 recycled-sound-spec =
     tie.close
-    (tie.spec
-    Inv-loop
-    μ-loop
-    (λ c. search laws)
-    (λ c. search laws)
-    (λ c. search laws)
-    (λ c. search laws)
-    (λ c. search laws)
-    (λ c. search laws)
-    (λ c. search laws)
-    (λ c κs. search laws)
-    (λ c. search laws)
-    (λ c. search laws)
-    (λ c. search laws)
-    (λ c. search laws)
+    (tie.spec Inv-loop μ-loop (λ c. search laws) (λ c. search laws) (λ c. search laws) (λ c. search laws) (λ c. search laws)
+    (λ c. search laws) (λ c. search laws) (λ c κs. search laws) (λ c. search laws) (λ c. search laws) (λ c. search laws) (λ c. search laws)
     (λ c. search laws))

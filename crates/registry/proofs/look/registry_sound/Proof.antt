@@ -1,5 +1,4 @@
 -- `registry::look::registry_sound` meets its contract: the index and the passes test the rules, and the passes write nothing.
--- Assumes nothing.
 use mathlib.Core.Path.{_≡_, sym, _∙_}
 use mathlib.Core.Bool.{Bool, true, false, true≢false}
 use mathlib.Core.List.{List}
@@ -50,13 +49,5 @@ returns-2 c =
 pub registry-sound-spec : {M : Type 1} → statement M
 registry-sound-spec =
     tie.close
-    (tie.spec
-    slice-aggregate-index
-    index-requires
-    passes-sound-requires
-    (λ c. search needs)
-    (λ c. search needs)
-    returns
-    (λ c. search needs)
-    (λ c. search needs)
-    returns-2)
+    (tie.spec slice-aggregate-index index-requires passes-sound-requires (λ c. search needs) (λ c. search needs) returns (λ c. search needs)
+    (λ c. search needs) returns-2)

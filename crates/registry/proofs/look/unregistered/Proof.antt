@@ -1,7 +1,6 @@
 -- `registry::look::unregistered` meets its contract: what the index knows nowhere is none of the ids.
--- Assumes nothing.
 use mathlib.Core.Path.{_≡_, sym, ap, _∙_}
-use mathlib.Core.Bool.{Bool, not}
+use mathlib.Core.Bool.{not}
 use mathlib.Core.List.{List}
 use Prim.Native.Nat.{ℕ, _≤_}
 use native.Mathlib.Omega.{arith}
@@ -10,7 +9,6 @@ use borrow.Author.Tests.{eqb-true, eq-eqb}
 use lib.Dec.{eqb}
 use lib.ListN.{length, getD, take}
 use lib.Seq.{length-take-le, getD-take}
-use Rattle.base.specs.Below.{all}
 use Rattle.base.specs.AllLaws.{all-ext}
 use Rattle.base.specs.Exactly.{same-test}
 use Rattle.base.specs.Place.{holds, placeOf, isNowhere, nowhere-test}
@@ -44,10 +42,4 @@ returns-2 c = sym (ap isNowhere (c .enum-told2 .given .1)) ∙ nowhere _ _ _ (om
 pub unregistered-spec : {M : Type 1} → statement M
 unregistered-spec =
     tie.close
-    (tie.spec
-    slice-aggregate-place-of
-    (λ c κs. search needs)
-    (λ c. search needs)
-    (λ c. search needs)
-    returns
-    returns-2)
+    (tie.spec slice-aggregate-place-of (λ c κs. search needs) (λ c. search needs) (λ c. search needs) returns returns-2)

@@ -1,5 +1,4 @@
 -- `registry::look::within` meets its contract: a counter of 16 bits fits a word.
--- Assumes nothing.
 use native.Mathlib.Omega.{arith}
 use borrow.Author.Needs.{needs}
 use Rattle.registry.proofs.look.within.Statement.{statement}

@@ -1,6 +1,5 @@
 -- `registry::registering::give_list` meets its contract: where the flag is set nothing is to do; where it is not, two more set it, which
 -- fits a word.
--- Assumes nothing.
 use mathlib.Core.Path.{_≡_, sym}
 use mathlib.Core.Logic.{_≢_}
 use mathlib.Core.List.{List}
@@ -35,16 +34,5 @@ add-rg c =
 pub give-list-spec : {M : Type 1} → statement M
 give-list-spec =
     tie.close
-    (tie.spec
-    (λ c. search laws)
-    (λ c. search laws)
-    (λ c. search laws)
-    (λ c. search laws)
-    (λ c. search laws)
-    (λ c. search laws)
-    (λ c. search laws)
-    add-rg
-    (λ c. search laws)
-    (λ c. search laws)
-    (λ c. search laws)
-    (λ c. search laws))
+    (tie.spec (λ c. search laws) (λ c. search laws) (λ c. search laws) (λ c. search laws) (λ c. search laws) (λ c. search laws)
+    (λ c. search laws) add-rg (λ c. search laws) (λ c. search laws) (λ c. search laws) (λ c. search laws))

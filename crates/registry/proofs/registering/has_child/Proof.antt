@@ -1,5 +1,4 @@
 -- `registry::registering::has_child` meets its contract: no place before j is a child, so the first child from j on is the first.
--- Assumes nothing.
 use mathlib.Core.Path.{_≡_, sym}
 use mathlib.Core.Bool.{Bool, true, false}
 use Prim.Native.Nat.{ℕ, _-_, _<_, _≤_}
@@ -33,17 +32,5 @@ ruleset laws = (needs, first-up-start, first-up-next, found, none, names-it, nam
 pub has-child-spec : {M : Type 1} → statement M
 has-child-spec =
     tie.close
-    (tie.spec
-    Inv-loop
-    μ-loop
-    (λ c. search laws)
-    (λ c. search laws)
-    (λ c. search laws)
-    (λ c. search laws)
-    (λ c. search laws)
-    (λ c. search laws)
-    (λ c. search laws)
-    (λ c. search laws)
-    (λ c. search laws)
-    (λ c. search laws)
-    (λ c. search laws))
+    (tie.spec Inv-loop μ-loop (λ c. search laws) (λ c. search laws) (λ c. search laws) (λ c. search laws) (λ c. search laws)
+    (λ c. search laws) (λ c. search laws) (λ c. search laws) (λ c. search laws) (λ c. search laws) (λ c. search laws))

@@ -1,5 +1,4 @@
 -- `registry::registering::register` meets its contract: its four words are written one after the other.
--- Assumes nothing.
 use native.Mathlib.Omega.{arith}
 use borrow.Author.Needs.{needs}
 use lib.ListN.{length-set}

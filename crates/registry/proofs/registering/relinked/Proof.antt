@@ -1,5 +1,4 @@
 -- `registry::registering::relinked` meets its contract: the three ways through it are those of the definition.
--- Assumes nothing.
 use mathlib.Core.Path.{_≡_}
 use mathlib.Core.Logic.{_≢_}
 use Prim.Native.Nat.{ℕ, suc, _+_, _-_, _<_, _≤_}
@@ -26,9 +25,4 @@ ruleset laws = (needs, to-none, one-less, kept)
 pub relinked-spec : {M : Type 1} → statement M
 relinked-spec =
     tie.close
-    (tie.spec
-    (λ c. search laws)
-    (λ c. search laws)
-    (λ c. search laws)
-    (λ c. search laws)
-    (λ c. search laws))
+    (tie.spec (λ c. search laws) (λ c. search laws) (λ c. search laws) (λ c. search laws) (λ c. search laws))

@@ -1,5 +1,4 @@
 -- `revocation::log::has_indexed` meets its contract: the log has what the index knows at a place, and nothing that it knows nowhere.
--- Assumes nothing.
 use mathlib.Core.Path.{_≡_, sym, ap, _∙_}
 use mathlib.Core.Bool.{true, false, not, true≢false}
 use mathlib.Core.List.{List}

@@ -1,5 +1,4 @@
 -- `revocation::log::has_pair` meets its contract: no pair before k is this one, so the first from k on is the first.
--- Assumes nothing.
 use mathlib.Core.Path.{_≡_}
 use Prim.Native.Nat.{_-_, _≤_}
 use borrow.Author.Needs.{needs}
@@ -32,14 +31,5 @@ returns-2 c = search laws
 pub has-pair-spec : {M : Type 1} → statement M
 has-pair-spec =
     tie.close
-    (tie.spec
-    Inv-loop
-    μ-loop
-    (λ c. search laws)
-    (λ c. search laws)
-    (λ c. search laws)
-    returns
-    (λ c. search laws)
-    (λ c. search laws)
-    (λ c. search laws)
-    returns-2)
+    (tie.spec Inv-loop μ-loop (λ c. search laws) (λ c. search laws) (λ c. search laws) returns (λ c. search laws) (λ c. search laws)
+    (λ c. search laws) returns-2)

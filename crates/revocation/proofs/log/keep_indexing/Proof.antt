@@ -1,5 +1,4 @@
 -- `revocation::log::keep_indexing` meets its contract: words that differ are indexed.
--- Assumes nothing.
 use mathlib.Core.Path.{_∙_}
 use native.Mathlib.Omega.{arith}
 use borrow.Author.Needs.{needs}
@@ -16,10 +15,4 @@ keep-by-index-requires c κs =
 pub keep-indexing-spec : {M : Type 1} → statement M
 keep-indexing-spec =
     tie.close
-    (tie.spec
-    (λ c κs. search needs)
-    keep-by-index-requires
-    (λ c. search needs)
-    (λ c. search needs)
-    (λ c. search needs)
-    (λ c. search needs))
+    (tie.spec (λ c κs. search needs) keep-by-index-requires (λ c. search needs) (λ c. search needs) (λ c. search needs) (λ c. search needs))

@@ -1,5 +1,4 @@
 -- `revocation::look::apart` meets its contract: a free place is no queue, and a queue is told by its pid.
--- Assumes nothing.
 use native.Mathlib.Omega.{arith}
 use borrow.Author.Needs.{needs}
 use borrow.Author.Tests.{le-ltb, lt-ltb}

@@ -1,5 +1,4 @@
 -- `revocation::look::each_sound` meets its contract: the places before q keep their rules.
--- Assumes nothing.
 use mathlib.Core.Path.{_≡_}
 use mathlib.Core.Bool.{Bool, true, false}
 use mathlib.Core.List.{List}

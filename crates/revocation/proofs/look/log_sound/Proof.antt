@@ -1,5 +1,4 @@
 -- `revocation::look::log_sound` meets its contract: what is lent to `distinct` is the first n pairs.
--- Assumes nothing.
 use mathlib.Core.Path.{sym, _∙_}
 use native.Mathlib.Omega.{arith}
 use borrow.Author.Needs.{needs}

@@ -1,5 +1,4 @@
 -- `revocation::look::pid_new` meets its contract: a free place is apart from all, and the queues before i have other pids than j.
--- Assumes nothing.
 use mathlib.Core.Path.{_≡_, sym}
 use mathlib.Core.Bool.{Bool, true}
 use mathlib.Core.List.{List}

@@ -1,5 +1,4 @@
 -- `revocation::look::queue_sound` meets its contract: its tests are those of `queueTest`, in their order.
--- Assumes nothing.
 use borrow.Author.Needs.{needs}
 use borrow.Author.Tests.{eq-eqb, ne-eqb, lt-ltb, le-ltb, le-leb, lt-leb}
 use Rattle.revocation.specs.Sound.{queueTest}
@@ -30,11 +29,4 @@ returns-4 c =
 pub queue-sound-spec : {M : Type 1} → statement M
 queue-sound-spec =
     tie.close
-    (tie.spec
-    (λ c. search needs)
-    returns
-    (λ c. search needs)
-    returns-2
-    returns-3
-    (λ c κs. search needs)
-    returns-4)
+    (tie.spec (λ c. search needs) returns (λ c. search needs) returns-2 returns-3 (λ c κs. search needs) returns-4)

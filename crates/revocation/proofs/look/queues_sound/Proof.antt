@@ -1,5 +1,4 @@
 -- `revocation::look::queues_sound` meets its contract: one test after the other.
--- Assumes nothing.
 use borrow.Author.Needs.{needs}
 use Rattle.base.specs.Choose.{both-goes, both-stops}
 use Rattle.revocation.specs.Sound.{queuesTest}

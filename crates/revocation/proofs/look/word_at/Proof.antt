@@ -1,5 +1,4 @@
 -- `revocation::look::word_at` meets its contract: the queue at place q starts at q * 771.
--- Assumes nothing.
 use Prim.Native.Nat.{_<_}
 use native.Mathlib.Omega.{arith}
 use borrow.Author.Needs.{needs}
@@ -10,9 +9,5 @@ use Rattle.revocation.proofs.look.word_at.Tie as tie
 pub word-at-spec : {M : Type 1} → statement M
 word-at-spec =
     tie.close
-    (tie.spec
-    (λ c. search needs)
-    (λ c. search needs)
-    (λ c. search needs)
-    (λ c. search needs)
+    (tie.spec (λ c. search needs) (λ c. search needs) (λ c. search needs) (λ c. search needs)
     (λ c. let inside : c .before .args .i < 771 = omega arith in rw getD-part))

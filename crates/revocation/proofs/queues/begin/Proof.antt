@@ -1,5 +1,4 @@
 -- `revocation::queues::begin` meets its contract: the notice, and then the three words before the ring.
--- Assumes nothing.
 use native.Mathlib.Omega.{arith}
 use borrow.Author.Needs.{needs}
 use lib.ListN.{length-set}

@@ -1,5 +1,4 @@
 -- `revocation::queues::copy_notice` meets its contract: its three words are written one after the other.
--- Assumes nothing.
 use mathlib.Core.Path.{_≡_}
 use mathlib.Core.List.{List}
 use Prim.Native.Nat.{ℕ, suc, _+_, _*_}

@@ -1,5 +1,4 @@
 -- `revocation::queues::free` meets its contract: one word is written.
--- Assumes nothing.
 use borrow.Author.Needs.{needs}
 use Rattle.revocation.specs.Queue.{freed}
 use Rattle.revocation.proofs.queues.free.Statement.{statement}

@@ -1,5 +1,4 @@
 -- `revocation::queues::push` meets its contract: behind the others where there is room, over the oldest where there is none.
--- Assumes nothing.
 use mathlib.Core.Path.{_≡_}
 use mathlib.Core.List.{List}
 use Prim.Native.Nat.{ℕ, _+_, _%_, _<_, _≤_}

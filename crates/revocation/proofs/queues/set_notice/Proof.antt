@@ -1,5 +1,4 @@
 -- `revocation::queues::set_notice` meets its contract: its three words are written one after the other.
--- Assumes nothing.
 use native.Mathlib.Omega.{arith}
 use borrow.Author.Needs.{needs}
 use lib.ListN.{length-set}
