@@ -1,16 +1,16 @@
 -- The queues as the look is lent them, all in one part of the memory.
 use mathlib.Core.List.{List}
 use mathlib.Core.Path.{_≡_, ap₂}
-use Prim.Native.Nat.{ℕ, _+_, _*_, _<_, _≤_}
+use Prim.Native.Nat.{ℕ, _*_, _<_}
 use native.Mathlib.Nat.{mul-le-mul-right, suc-mul}
 use native.Mathlib.Omega.{arith}
 use Rattle.base.specs.AllLaws.{all-ext}
 use Rattle.base.specs.Choose.{both}
 use Rattle.base.specs.Part.{part, part-part}
 use Rattle.revocation.specs.Sound as rules
-use Rattle.revocation.specs.Words.{queueAt, pidAt, lengthAt}
+use Rattle.revocation.specs.Words.{queueAt}
 use Rattle.world.specs.Regions.{queue, queuesAt, startOf, view}
-use Rattle.world.specs.Sound.{pids, lengths, queuesTest}
+use Rattle.world.specs.Sound.{queuesTest}
 use Rattle.world.specs.declared.Numbers.{Numbers}
 
 module _ (d : Numbers) (mem : List ℕ) where

@@ -19,8 +19,24 @@ numbersOf mem =
 abbrev pub nextOf : List ℕ → ℕ
 nextOf mem = getD mem 5 0
 
+-- The words of the epoch and of the statistics.
+abbrev pub epochWord : ℕ
+epochWord = 6
+
+abbrev pub createdWord : ℕ
+createdWord = 7
+
+abbrev pub delegatedWord : ℕ
+delegatedWord = 8
+
+abbrev pub revokedWord : ℕ
+revokedWord = 9
+
+abbrev pub deletedWord : ℕ
+deletedWord = 10
+
 abbrev pub epochOf : List ℕ → ℕ
-epochOf mem = getD mem 6 0
+epochOf mem = getD mem epochWord 0
 
 abbrev pub registeredOf : List ℕ → ℕ
 registeredOf mem = getD mem 11 0

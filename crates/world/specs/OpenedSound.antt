@@ -14,7 +14,7 @@ use Rattle.world.specs.Open.{openHead, openSpace, opened, Good, recordTe
 use Rattle.world.specs.Opened.{opened-view, opened-length, opened-word, opened-numbers}
 use Rattle.world.specs.Regions.{space, queue, lengthFor, view}
 use Rattle.world.specs.Sound.{SoundAt, Sound, lengths}
-use Rattle.world.specs.Views.{length-view}
+use Rattle.world.specs.Views.{queue-words}
 use Rattle.world.specs.declared.Numbers.{Numbers}
 
 -- A space with its quota and nothing in it.
@@ -44,7 +44,7 @@ module _ (d : Numbers) (quotas mem : List ℕ) (long : lengthFor d ≤ length me
   free : (q : ℕ) → q < d .queues → lengths d new q ≡ 0
   free q l =
       ap (λ qu. getD qu 2 0) (opened-view d quotas mem long (queue q) l)
-      ∙ getD-set-same (view d (queue q) mem) 2 0 0 (omega (arith, length-view d (queue q) mem l long))
+      ∙ getD-set-same (view d (queue q) mem) 2 0 0 (omega (arith, queue-words d mem long q l))
 
   sound-at : Good d quotas → SoundAt d new
   unfolding openHead

@@ -4,7 +4,7 @@ use mathlib.Core.Bool.{false}
 use mathlib.Core.List.{List, _++_}
 use mathlib.Core.Logic.{⊎-elim}
 use mathlib.Core.Path.{_≡_, refl, sym, ap, _∙_}
-use Prim.Native.Nat.{ℕ, _+_, _-_, _≤_, _<_}
+use Prim.Native.Nat.{ℕ, _+_, _-_, _*_, _≤_, _<_}
 use native.Mathlib.Nat.{zero-add, add-sub-cancel-left}
 use native.Mathlib.Omega.{arith}
 use lib.ListN.{length, getD, set, take, drop, length-set, length-drop}
@@ -12,7 +12,7 @@ use lib.Seq.{take-all}
 use Rattle.base.specs.Part as part
 use Rattle.world.specs.Layout.{Valid, same, inside, apart}
 use Rattle.world.specs.Numbers.{numbersOf, numbers-by-words}
-use Rattle.world.specs.Regions.{Region, head, lengthFor, startOf, sizeOf, view, onRegion}
+use Rattle.world.specs.Regions.{Region, head, registry, queue, lengthFor, startOf, sizeOf, view, onRegion}
 use Rattle.world.specs.declared.Numbers.{Numbers}
 
 -- ---- the words of a region
@@ -35,6 +35,13 @@ module _ (d : Numbers) (r : Region) (mem : List ℕ) where
   -- and what it leaves.
   pub lent-region : (a e : ℕ) (f : List ℕ → List ℕ) (ws : List ℕ) → a ≡ startOf d r → a + sizeOf d r ≡ e → ws ≡ f (take (e - a) (drop a mem)) → take a mem ++ (ws ++ drop (e - a) (drop a mem)) ≡ onRegion d r f mem
   lent-region a e f ws at w h = part.lent a (sizeOf d r) e f mem ws w h ∙ ap (λ b. part.onPart b (sizeOf d r) f mem) at
+
+-- How many words the registry and a queue have.
+pub registry-words : (d : Numbers) (mem : List ℕ) → lengthFor d ≤ length mem → 5 * d .places + 1 ≤ length (view d registry mem)
+registry-words d mem long = omega (arith, length-view d registry mem tt long)
+
+pub queue-words : (d : Numbers) (mem : List ℕ) → lengthFor d ≤ length mem → (q : ℕ) → q < d .queues → 771 ≤ length (view d (queue q) mem)
+queue-words d mem long q valid = omega (arith, length-view d (queue q) mem valid long)
 
 -- The head's words are the first of the memory.
 pub head-word : (d : Numbers) (mem : List ℕ) (i : ℕ) → i < 16 → getD (view d head mem) i 0 ≡ getD mem i 0
@@ -87,9 +94,6 @@ module _ (d : Numbers) (r : Region) (f : List ℕ → List ℕ) (mem : List ℕ)
       all : (xs : List ℕ) → length xs ≡ length mem → take (length mem) (drop (lengthFor d) xs) ≡ drop (lengthFor d) xs
       all xs e = take-all (length mem) (drop (lengthFor d) xs) (simp length-drop (omega arith))
 
-  pub past-word : (i : ℕ) → lengthFor d ≤ i → getD (onRegion d r f mem) i 0 ≡ getD mem i 0
-  past-word i l = part.getD-onPart-after (startOf d r) (sizeOf d r) f mem fits (ch .kept) i 0 (omega (arith, inside d r (ch .valid)))
-
   -- A change of any region but the head leaves the words of the head, and with them the numbers.
   pub head-kept : same r head ≡ false → (i : ℕ) → i < 16 → getD (onRegion d r f mem) i 0 ≡ getD mem i 0
   head-kept differ i l =
@@ -98,17 +102,6 @@ module _ (d : Numbers) (r : Region) (f : List ℕ → List ℕ) (mem : List ℕ)
   pub numbers-kept : same r head ≡ false → numbersOf (onRegion d r f mem) ≡ numbersOf mem
   numbers-kept differ = numbers-by-words mem (onRegion d r f mem) (λ i l. head-kept differ i (omega arith))
 
-  -- Two changes of one region are one after the other; changes of two regions come to the same in either order.
+  -- Two changes of one region are one after the other.
   pub changed-twice : (g : List ℕ → List ℕ) → onRegion d r g (onRegion d r f mem) ≡ onRegion d r (λ ws. g (f ws)) mem
   changed-twice g = part.onPart-twice (startOf d r) (sizeOf d r) f mem fits (ch .kept) g
-
-  pub changes-commute : (r′ : Region) (g : List ℕ → List ℕ) → Change d r′ g mem → same r r′ ≡ false → onRegion d r f (onRegion d r′ g mem) ≡ onRegion d r′ g (onRegion d r f mem)
-  changes-commute r′ g ch′ differ =
-      ⊎-elim
-      (part.onPart-comm (startOf d r) (sizeOf d r) f mem fits (ch .kept) (startOf d r′) (sizeOf d r′) g)
-      (λ before. sym (part.onPart-comm (startOf d r′) (sizeOf d r′) g mem (within d r′ g mem ch′) (ch′ .kept) (startOf d r) (sizeOf d r) f before))
-      (apart d r r′ (ch .valid) (ch′ .valid) differ)
-
-pub head-changed : (d : Numbers) (f : List ℕ → List ℕ) (mem : List ℕ) → Change d head f mem → (i : ℕ) → i < 16 → getD (onRegion d head f mem) i 0 ≡ getD (f (view d head mem)) i 0
-head-changed d f mem ch i l =
-    sym (head-word d (onRegion d head f mem) i l) ∙ ap (λ ws. getD ws i 0) (view-same d head f mem ch)

@@ -99,7 +99,10 @@ fn count_space(sp: &[u64], ids: &[u64], heads: &[u16], prevs: &[u16], counts: &m
     requires { ⌜ Chained (now ids) (now heads) (now prevs) (length (now ids)) ⌝ }
     requires { ⌜ length (now ids) ≤ length (now counts) ⌝ }
     requires { ⌜ AtMost 65023 (now counts) ⌝ }
-    ensures { λ r. ⌜ now (counts .exit) ≡ countSlots (now (ids .entry)) (slotWords (now (sp .entry))) (tableOf (now (sp .entry)) .slots) (now (counts .entry)) ⌝ }
+    ensures { λ r. ⌜
+        now (counts .exit)
+        ≡ countSlots (now (ids .entry)) (slotWords (now (sp .entry))) (tableOf (now (sp .entry)) .slots) (now (counts .entry))
+        ⌝ }
 {
     let mut entries = [0u64; 512];
     let n = live_ids(&sp[8..], sp[5] as usize, &mut entries);

@@ -9,14 +9,5 @@ pub in-range-spec : {M : Type 1} → statement M
 unfolding inRangeTest
 in-range-spec =
     tie.close
-    (tie.spec
-    (λ c κs. search needs)
-    (λ c. search tests depth 12)
-    (λ c κs. search needs)
-    (λ c. search tests depth 12)
-    (λ c κs. search needs)
-    (λ c. search tests depth 12)
-    (λ c κs. search needs)
-    (λ c. search tests depth 12)
-    (λ c κs. search needs)
-    (λ c. search tests depth 12))
+    (tie.spec (λ c κs. search needs) (λ c. search tests depth 12) (λ c κs. search needs) (λ c. search tests depth 12) (λ c κs. search needs)
+    (λ c. search tests depth 12) (λ c κs. search needs) (λ c. search tests depth 12) (λ c κs. search needs) (λ c. search tests depth 12))

@@ -54,14 +54,5 @@ returns c =
 pub count-space-spec : {M : Type 1} → statement M
 count-space-spec =
     tie.close
-    (tie.spec
-    (λ c. search needs)
-    (λ c. search needs)
-    (λ c. search needs)
-    (λ c. search needs)
-    (λ c κs. search needs)
-    array-share-prefix-entries
-    slice-aggregate-count-entries
-    count-entries-requires
-    (λ c. search needs)
-    returns)
+    (tie.spec (λ c. search needs) (λ c. search needs) (λ c. search needs) (λ c. search needs) (λ c κs. search needs)
+    array-share-prefix-entries slice-aggregate-count-entries count-entries-requires (λ c. search needs) returns)

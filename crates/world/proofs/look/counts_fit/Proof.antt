@@ -9,15 +9,6 @@ pub counts-fit-spec : {M : Type 1} → statement M
 unfolding countsTest
 counts-fit-spec =
     tie.close
-    (tie.spec
-    (λ c. search needs)
-    (λ c. search tests depth 12)
-    (λ c. search needs)
-    (λ c. search tests depth 12)
-    (λ c. search needs)
-    (λ c. search tests depth 12)
-    (λ c. search needs)
-    (λ c. search tests depth 12)
-    (λ c. search needs)
-    (λ c. search needs)
+    (tie.spec (λ c. search needs) (λ c. search tests depth 12) (λ c. search needs) (λ c. search tests depth 12) (λ c. search needs)
+    (λ c. search tests depth 12) (λ c. search needs) (λ c. search tests depth 12) (λ c. search needs) (λ c. search needs)
     (λ c. search tests depth 12))

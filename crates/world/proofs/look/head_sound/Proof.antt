@@ -9,10 +9,5 @@ pub head-sound-spec : {M : Type 1} → statement M
 unfolding headTest
 head-sound-spec =
     tie.close
-    (tie.spec
-    (λ c κs. search needs)
-    (λ c. search head-laws)
-    (λ c κs. search head-laws)
-    (λ c. search head-laws)
-    (λ c κs. search head-laws)
+    (tie.spec (λ c κs. search needs) (λ c. search head-laws) (λ c κs. search head-laws) (λ c. search head-laws) (λ c κs. search head-laws)
     (λ c. search head-laws))

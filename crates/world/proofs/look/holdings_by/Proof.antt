@@ -170,30 +170,8 @@ returns-3 c =
 pub holdings-by-spec : {M : Type 1} → statement M
 holdings-by-spec =
     tie.close
-    (tie.spec
-    (λ c κs. search needs)
-    (λ c. search needs)
-    (λ c. search needs)
-    (λ c. search needs)
-    (λ c. search needs)
-    (λ c. search needs)
-    (λ c. search needs)
-    (λ c. search needs)
-    shared-slice-read-n
-    shared-slice-read-registry-sound
-    (λ c. search needs)
-    registry-sound-requires
-    (λ c. search needs)
-    (λ c. search needs)
-    returns
-    slice-aggregate-spaces-sound
-    spaces-sound-requires
-    (λ c. search needs)
-    (λ c. search needs)
-    (λ c. search needs)
-    returns-2
-    holders-within-requires
-    (λ c. search needs)
-    (λ c. search needs)
-    (λ c. search needs)
+    (tie.spec (λ c κs. search needs) (λ c. search needs) (λ c. search needs) (λ c. search needs) (λ c. search needs) (λ c. search needs)
+    (λ c. search needs) (λ c. search needs) shared-slice-read-n shared-slice-read-registry-sound (λ c. search needs) registry-sound-requires
+    (λ c. search needs) (λ c. search needs) returns slice-aggregate-spaces-sound spaces-sound-requires (λ c. search needs)
+    (λ c. search needs) (λ c. search needs) returns-2 holders-within-requires (λ c. search needs) (λ c. search needs) (λ c. search needs)
     returns-3)

@@ -47,15 +47,5 @@ holdings-by-requires-2 c κs =
 pub holdings-sound-spec : {M : Type 1} → statement M
 holdings-sound-spec =
     tie.close
-    (tie.spec
-    shared-slice-read-if1
-    (λ c. search needs)
-    (λ c. search needs)
-    (λ c. search needs)
-    holdings-by-requires
-    (λ c. search needs)
-    (λ c. search needs)
-    (λ c. search needs)
-    (λ c. search needs)
-    holdings-by-requires-2
-    (λ c. search needs))
+    (tie.spec shared-slice-read-if1 (λ c. search needs) (λ c. search needs) (λ c. search needs) holdings-by-requires (λ c. search needs)
+    (λ c. search needs) (λ c. search needs) (λ c. search needs) holdings-by-requires-2 (λ c. search needs))

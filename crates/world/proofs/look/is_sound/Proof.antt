@@ -1,5 +1,5 @@
 -- The first test that fails decides. Memory without a head is too short for any numbers.
-use mathlib.Core.Bool.{Bool, true, false, not}
+use mathlib.Core.Bool.{Bool, false, not}
 use mathlib.Core.List.{List}
 use mathlib.Core.Path.{_≡_, sym, _∙_}
 use Prim.Native.Nat.{ℕ, _<_}
@@ -8,7 +8,7 @@ use borrow.Author.Needs.{needs}
 use borrow.Author.Tests.{not-false, lt-leb}
 use lib.ListN.{length}
 use Rattle.base.specs.Choose.{both, both-false}
-use Rattle.world.specs.Numbers.{numbersOf, inRangeTest}
+use Rattle.world.specs.Numbers.{numbersOf}
 use Rattle.world.specs.Regions.{lengthFor}
 use Rattle.world.specs.Sound.{headTest, holdingsTest, loggedTest, queuesTest, soundTest}
 use Rattle.world.specs.SoundLaws.{Headed, head-exactly}
@@ -36,14 +36,5 @@ ruleset laws = (tests, headed, at-numbers)
 pub is-sound-spec : {M : Type 1} → statement M
 is-sound-spec =
     tie.close
-    (tie.spec
-    (λ c. search no-head)
-    (λ c κs. search needs)
-    (λ c κs. search needs)
-    (λ c. search laws)
-    (λ c κs. search laws)
-    (λ c. search laws)
-    (λ c κs. search laws)
-    (λ c. search laws)
-    (λ c κs. search laws)
-    (λ c. search laws depth 12))
+    (tie.spec (λ c. search no-head) (λ c κs. search needs) (λ c κs. search needs) (λ c. search laws) (λ c κs. search laws)
+    (λ c. search laws) (λ c κs. search laws) (λ c. search laws) (λ c κs. search laws) (λ c. search laws depth 12))

@@ -39,11 +39,4 @@ returns-3 c = (slot-is _ _ _ _ (c .before .before .slot-at .ensures) (c .enum-to
 pub one-live-spec : {M : Type 1} → statement M
 one-live-spec =
     tie.close
-    (tie.spec
-    (λ c κs. search needs)
-    (λ c. search needs)
-    (λ c. search needs)
-    (λ c. search needs)
-    returns
-    returns-2
-    returns-3)
+    (tie.spec (λ c κs. search needs) (λ c. search needs) (λ c. search needs) (λ c. search needs) returns returns-2 returns-3)

@@ -2,10 +2,10 @@
 use mathlib.Core.Bool.{Bool}
 use mathlib.Core.List.{List}
 use mathlib.Core.Path.{_≡_, _∙_}
-use Prim.Native.Nat.{ℕ, _-_, _*_, _≤_}
+use Prim.Native.Nat.{ℕ, _-_, _*_}
 use native.Mathlib.Omega.{arith}
 use borrow.Author.Needs.{needs}
-use lib.ListN.{length, take, drop, length-take, length-drop}
+use lib.ListN.{take, drop, length-take, length-drop}
 use Rattle.revocation.specs.Sound as rules
 use Rattle.world.specs.Lent.{queues-passed}
 use Rattle.world.specs.Regions.{queue, queuesAt, lengthFor, startOf}
@@ -29,12 +29,5 @@ queues-sound-requires c κs = simp (length-take, length-drop) (omega arith)
 pub queues-sound-spec : {M : Type 1} → statement M
 queues-sound-spec =
     tie.close
-    (tie.spec
-    (λ c κs. search needs)
-    (λ c κs. search needs)
-    (λ c. search needs)
-    (λ c. search needs)
-    (λ c. search needs)
-    (λ c. search needs)
-    queues-sound-requires
-    (λ c. search passed))
+    (tie.spec (λ c κs. search needs) (λ c κs. search needs) (λ c. search needs) (λ c. search needs) (λ c. search needs) (λ c. search needs)
+    queues-sound-requires (λ c. search passed))

@@ -9,9 +9,4 @@ pub good-record-spec : {M : Type 1} → statement M
 unfolding recordTest
 good-record-spec =
     tie.close
-    (tie.spec
-    (λ c κs. search needs)
-    (λ c. search tests)
-    (λ c. search tests)
-    (λ c κs. search needs)
-    (λ c. search tests))
+    (tie.spec (λ c κs. search needs) (λ c. search tests) (λ c. search tests) (λ c κs. search needs) (λ c. search tests))

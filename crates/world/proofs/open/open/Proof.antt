@@ -34,11 +34,4 @@ returns-3 c =
 pub open-spec : {M : Type 1} → statement M
 open-spec =
     tie.close
-    (tie.spec
-    (λ c κs. search needs)
-    returns
-    length-for-requires
-    returns-2
-    write-world-requires
-    (λ c. search needs)
-    returns-3)
+    (tie.spec (λ c κs. search needs) returns length-for-requires returns-2 write-world-requires (λ c. search needs) returns-3)

@@ -16,16 +16,6 @@ abbrev μ-loop : tie.MeasureT-loop
 pub open-queues-spec : {M : Type 1} → statement M
 open-queues-spec =
     tie.close
-    (tie.spec
-    Inv-loop
-    μ-loop
-    (λ c. search queue-laws)
-    (λ c κs. search queue-laws)
-    (λ c. search queue-laws)
-    (λ c. search queue-laws)
-    (λ c. search queue-laws)
-    (λ c. search queue-laws)
-    (λ c. search queue-laws)
-    (λ c. search queue-laws)
-    (λ c. search queue-laws)
+    (tie.spec Inv-loop μ-loop (λ c. search queue-laws) (λ c κs. search queue-laws) (λ c. search queue-laws) (λ c. search queue-laws)
+    (λ c. search queue-laws) (λ c. search queue-laws) (λ c. search queue-laws) (λ c. search queue-laws) (λ c. search queue-laws)
     (λ c. search queue-laws))

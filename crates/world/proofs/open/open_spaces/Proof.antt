@@ -16,15 +16,5 @@ abbrev μ-loop : tie.MeasureT-loop
 pub open-spaces-spec : {M : Type 1} → statement M
 open-spaces-spec =
     tie.close
-    (tie.spec
-    Inv-loop
-    μ-loop
-    (λ c. search space-laws)
-    (λ c. search space-laws)
-    (λ c. search space-laws)
-    (λ c κs. search space-laws)
-    (λ c. search space-laws)
-    (λ c. search space-laws)
-    (λ c. search space-laws)
-    (λ c. search space-laws)
-    (λ c. search space-laws))
+    (tie.spec Inv-loop μ-loop (λ c. search space-laws) (λ c. search space-laws) (λ c. search space-laws) (λ c κs. search space-laws)
+    (λ c. search space-laws) (λ c. search space-laws) (λ c. search space-laws) (λ c. search space-laws) (λ c. search space-laws))

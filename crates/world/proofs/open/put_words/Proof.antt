@@ -16,16 +16,6 @@ abbrev μ-loop : tie.MeasureT-loop
 pub put-words-spec : {M : Type 1} → statement M
 put-words-spec =
     tie.close
-    (tie.spec
-    Inv-loop
-    μ-loop
-    (λ c. search put-laws)
-    (λ c. search put-laws)
-    (λ c. search put-laws)
-    (λ c. search put-laws)
-    (λ c. search put-laws)
-    (λ c. search put-laws)
-    (λ c. search put-laws)
-    (λ c. search put-laws)
-    (λ c. search put-laws)
+    (tie.spec Inv-loop μ-loop (λ c. search put-laws) (λ c. search put-laws) (λ c. search put-laws) (λ c. search put-laws)
+    (λ c. search put-laws) (λ c. search put-laws) (λ c. search put-laws) (λ c. search put-laws) (λ c. search put-laws)
     (λ c. search put-laws))
