@@ -17,7 +17,7 @@ use Rattle.revocation.specs.Sound.{SoundQueue}
 use Rattle.revocation.specs.Words.{firstOf, lengthOf}
 use Rattle.world.specs.Regions.{queue, view, onRegion}
 use Rattle.world.specs.Sound.{pids, lengths}
-use Rattle.world.specs.Views.{Change, length-view, length-kept, view-same, view-other}
+use Rattle.world.specs.Views.{Change, length-kept, view-same, view-other, queue-words}
 use Rattle.world.specs.declared.Numbers.{Numbers}
 use Rattle.steps.specs.Ready.{QueuesReady}
 use Rattle.revocation_steps.specs.Revocation.{queueFor, freeQueue, notifyStep}
@@ -57,7 +57,7 @@ module _ (d : Numbers) (mem : List ℕ) (ready : QueuesReady d mem) where
     qu = view d (queue q) mem
 
     long : 771 ≤ length qu
-    long = omega (arith, length-view d (queue q) mem l (ready .fits .long-enough))
+    long = queue-words d mem (ready .fits .long-enough) q l
 
     module _ (f : List ℕ → List ℕ) (kept : length (f qu) ≡ length qu) (coded : firstOf (f qu) < 256) (short : lengthOf (f qu) ≤ 256) where
       change : Change d (queue q) f mem

@@ -2,23 +2,20 @@
 -- id. Each definition speaks of the whole memory; d are its numbers.
 use mathlib.Core.Bool.{Bool, true, false, not}
 use mathlib.Core.List.{List, [], _∷_}
-use Prim.Native.Nat.{ℕ, _+_, _%_, _^_}
+use Prim.Native.Nat.{ℕ, _+_}
 use lib.Dec.{eqb, ltb}
-use lib.ListN.{length, getD, set, drop}
+use lib.ListN.{length, set, drop}
 use Rattle.base.specs.Below.{first, sum, one}
 use Rattle.base.specs.Choose.{pick, both}
 use Rattle.registry.specs.Children.{idsAt}
 use Rattle.registry.specs.Descent.{descent, unrevokedOf, marked}
 use Rattle.revocation.specs.Log.{absentOf, appended}
 use Rattle.revocation.specs.Queue.{pushed, begun, freed}
-use Rattle.world.specs.Numbers.{registeredOf, loggedOf}
+use Rattle.steps.specs.Steps.{addStep}
+use Rattle.world.specs.Numbers.{registeredOf, loggedOf, epochWord, revokedWord}
 use Rattle.world.specs.Regions.{registry, log, queue, view, onRegion}
 use Rattle.world.specs.Sound.{pids, lengths}
 use Rattle.world.specs.declared.Numbers.{Numbers}
-
--- Word i of the head counts k more, in 64 bits, wrapping.
-unfoldable pub addStep : ℕ → ℕ → List ℕ → List ℕ
-addStep i k mem = set mem i ((getD mem i 0 + k) % 2 ^ 64)
 
 -- ---- the log
 
@@ -92,16 +89,21 @@ cascadeIds d mem r = idsAt (view d registry mem) (cascade d mem r)
 abbrev pub cascadePairs : Numbers → List ℕ → ℕ → List ℕ
 cascadePairs d mem r = absentOf (loggedOf mem) (logOf d mem) (cascadeIds d mem r)
 
--- They are revoked and counted; each joins the log if absent, epoch plus one either way; each but the first is queued.
-unfoldable pub revokeStep : Numbers → ℕ → ℕ → List ℕ → List ℕ → List ℕ
-revokeStep d r time listed mem =
-    let ks = cascade d mem r in
-    notifyAll d listed (drop 1 (cascadeIds d mem r)) time
-    (addStep 6 (length ks)
-    (logStep d (cascadePairs d mem r)
-    (addStep 9 (length ks)
+-- Places ks with their ids are revoked and counted; each joins the log if absent, epoch plus one either way; each id but the first is queued.
+abbrev pub carriedOut : Numbers → List ℕ → List ℕ → List ℕ → ℕ → List ℕ → List ℕ → List ℕ
+carriedOut d ks ids pairs time listed mem =
+    notifyAll d listed (drop 1 ids) time
+    (addStep epochWord (length ks)
+    (logStep d pairs
+    (addStep revokedWord (length ks)
     (onRegion d registry (marked (d .places) ks) mem))))
 
--- How many new queues it needs: none where it revokes no descendant.
+unfoldable pub revokeStep : Numbers → ℕ → ℕ → List ℕ → List ℕ → List ℕ
+revokeStep d r time listed mem = carriedOut d (cascade d mem r) (cascadeIds d mem r) (cascadePairs d mem r) time listed mem
+
+-- How many new queues a cascade over so many places needs: none where it revokes no descendant.
+abbrev pub queuesNeeded : Numbers → List ℕ → List ℕ → ℕ → ℕ
+queuesNeeded d mem listed count = pick (ltb 1 count) (newQueues d mem listed) 0
+
 abbrev pub cascadeQueues : Numbers → List ℕ → ℕ → List ℕ → ℕ
-cascadeQueues d mem r listed = pick (ltb 1 (length (cascade d mem r))) (newQueues d mem listed) 0
+cascadeQueues d mem r listed = queuesNeeded d mem listed (length (cascade d mem r))

@@ -18,7 +18,10 @@ use world::regions::registry_at;
 pub fn descend(mem: &[u64], d: Numbers, r: usize, order: &mut [u16]) -> usize
     requires { ⌜ Ready d (now mem) × (r < registeredOf (now mem)) × (registeredOf (now mem) ≤ length (now order)) ⌝ }
     requires { ⌜ Linked (registeredOf (now mem)) (links d (now mem)) ⌝ }
-    ensures { λ count. ⌜ (take count (now (order .exit)) ≡ descent (d .places) (registeredOf (now (mem .entry))) (view d registry (now (mem .entry))) r) × (count ≤ registeredOf (now (mem .entry))) ⌝ }
+    ensures { λ count. ⌜
+        (take count (now (order .exit)) ≡ descent (d .places) (registeredOf (now (mem .entry))) (view d registry (now (mem .entry))) r)
+        × (count ≤ registeredOf (now (mem .entry)))
+        ⌝ }
     ensures { λ count. ⌜ AllBelow (registeredOf (now (mem .entry))) (take count (now (order .exit))) ⌝ }
 {
     let start = registry_at(d);
@@ -30,7 +33,10 @@ pub fn descend(mem: &[u64], d: Numbers, r: usize, order: &mut [u16]) -> usize
 pub fn keep_unrevoked(mem: &[u64], d: Numbers, order: &mut [u16], count: usize) -> usize
     requires { ⌜ Fits d (now mem) × (count ≤ length (now order)) ⌝ }
     requires { ⌜ AllBelow (d .places) (take count (now order)) ⌝ }
-    ensures { λ kept. ⌜ take kept (now (order .exit)) ≡ unrevokedOf (d .places) (view d registry (now (mem .entry))) (take count (now (order .entry))) ⌝ }
+    ensures { λ kept. ⌜
+        take kept (now (order .exit))
+        ≡ unrevokedOf (d .places) (view d registry (now (mem .entry))) (take count (now (order .entry)))
+        ⌝ }
     ensures { λ kept. ⌜ (kept ≤ count) × AllBelow (d .places) (take kept (now (order .exit))) ⌝ }
 {
     let start = registry_at(d);

@@ -1,4 +1,4 @@
-// The log and the counting words in the world's memory.
+// The log in the world's memory.
 ghost use mathlib.Core.Path.{_≡_};
 ghost use Prim.Native.Nat.{_+_, _<_, _≤_};
 ghost use lib.ListN.{length, take};
@@ -7,17 +7,9 @@ ghost use Rattle.revocation.specs.Log.{logHas, absentOf};
 ghost use Rattle.steps.specs.Ready.{Ready};
 ghost use Rattle.world.specs.Numbers.{loggedOf};
 ghost use Rattle.world.specs.Sound.{logPairs};
-ghost use Rattle.revocation_steps.specs.Revocation.{addStep, logOf, logStep};
+ghost use Rattle.revocation_steps.specs.Revocation.{logOf, logStep};
 use world::Numbers;
 use world::regions::log_at;
-
-// Word i of the head counts k more.
-pub fn add(mem: &mut [u64], i: usize, k: usize)
-    requires { ⌜ (i < 16) × (16 ≤ length (now mem)) ⌝ }
-    ensures { λ _. ⌜ now (mem .exit) ≡ addStep i k (now (mem .entry)) ⌝ }
-{
-    mem[i] = std::num::wrapping_add_u64(mem[i], k as u64);
-}
 
 // Whether the log has the pair.
 pub fn has_pair(mem: &[u64], d: Numbers, pair: u64) -> bool
@@ -33,7 +25,10 @@ pub fn has_pair(mem: &[u64], d: Numbers, pair: u64) -> bool
 pub fn keep_absent(mem: &[u64], d: Numbers, pairs: &mut [u64], count: usize) -> usize
     requires { ⌜ Ready d (now mem) × (loggedOf (now mem) ≤ d .pairs) × (count ≤ length (now pairs)) ⌝ }
     requires { ⌜ Differ (loggedOf (now mem)) (logPairs d (now mem)) ⌝ }
-    ensures { λ r. ⌜ take r (now (pairs .exit)) ≡ absentOf (loggedOf (now (mem .entry))) (logOf d (now (mem .entry))) (take count (now (pairs .entry))) ⌝ }
+    ensures { λ r. ⌜
+        take r (now (pairs .exit))
+        ≡ absentOf (loggedOf (now (mem .entry))) (logOf d (now (mem .entry))) (take count (now (pairs .entry)))
+        ⌝ }
     ensures { λ r. ⌜ r ≤ count ⌝ }
 {
     let start = log_at(d);

@@ -146,7 +146,11 @@ fn is_in(listed: &[u64], j: usize, pid: u64) -> bool
 // Whether the j-th pid has no queue and is not listed again behind it.
 fn is_new(mem: &[u64], d: Numbers, listed: &[u64], j: usize) -> bool
     requires { ⌜ Fits d (now mem) × (j < length (now listed)) ⌝ }
-    ensures { λ r. ⌜ r ≡ both (not (ltb (queueFor d (now (mem .entry)) (getD (now (listed .entry)) j 0)) (d .queues))) (not (isIn (getD (now (listed .entry)) j 0) (drop (j + 1) (now (listed .entry))))) ⌝ }
+    ensures { λ r. ⌜
+        r
+        ≡ both (not (ltb (queueFor d (now (mem .entry)) (getD (now (listed .entry)) j 0)) (d .queues)))
+        (not (isIn (getD (now (listed .entry)) j 0) (drop (j + 1) (now (listed .entry)))))
+        ⌝ }
 {
     let pid = listed[j];
     let q = queue_for(mem, d, pid);

@@ -1,7 +1,7 @@
 -- Entries come and go, and their holders are counted: the ways through `insert`, `remove`, `clear` and `copy`.
 use mathlib.Core.Bool.{true, false}
 use mathlib.Core.List.{List}
-use mathlib.Core.Path.{_≡_, sym, ap, _∙_}
+use mathlib.Core.Path.{_≡_}
 use Prim.Native.Nat.{ℕ, _%_, _^_}
 use borrow.Author.Tests.{eq-eqb, ne-eqb}
 use lib.Dec.{eqb}
@@ -15,9 +15,8 @@ use Rattle.space.specs.Lookup.{lookedUp}
 use Rattle.table.specs.Slots.{idOf}
 use Rattle.table.specs.declared.CapabilityEntry.{CapabilityEntry}
 use Rattle.table.specs.declared.Got.{Got}
-use Rattle.table.specs.declared.Got.the-variants.{Entry, Nothing}
 use Rattle.world.specs.Numbers.{registeredOf}
-use Rattle.world.specs.Regions.{space, lengthFor, onRegion}
+use Rattle.world.specs.Regions.{space, onRegion}
 use Rattle.world.specs.declared.Numbers.{Numbers}
 use Rattle.steps.specs.Ready.{Fits, Ready}
 use Rattle.steps.specs.Steps.{spaceOf, holdStep, releaseStep, holdAllStep, releaseAllStep, insertStep, isEntry, removeStep, clearStep, copyStep}

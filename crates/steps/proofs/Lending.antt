@@ -7,7 +7,7 @@ use lib.ListN.{length, getD, set, take, drop}
 use Rattle.space.specs.Words.{InRange}
 use Rattle.space.proofs.laws.Kept.{in-range}
 use Rattle.world.specs.Regions.{space, registry, log, queue, widthOf, view, onRegion, StartsAt}
-use Rattle.world.specs.Views.{length-view, view-word, lent-view, lent-region}
+use Rattle.world.specs.Views.{length-view, view-word, lent-view, lent-region, registry-words, queue-words}
 use Rattle.world.specs.declared.Numbers.{Numbers}
 use Rattle.steps.specs.Ready.{Fits, Ready}
 use Rattle.steps.specs.Steps.{spaceOf}
@@ -35,7 +35,7 @@ module _ (d : Numbers) (mem : List ℕ) (start : ℕ) (at : StartsAt d registry 
   lent-registry = lent-view d registry mem start end (at .is) (omega arith)
 
   pub registry-long : Fits d mem → 5 * d .places + 1 ≤ length (take (end - start) (drop start mem))
-  registry-long fits = rw lent-registry (omega (arith, length-view d registry mem tt (fits .long-enough)))
+  registry-long fits = rw lent-registry (registry-words d mem (fits .long-enough))
 
   pub registry-back : (f : List ℕ → List ℕ) (ws : List ℕ) → ws ≡ f (take (end - start) (drop start mem))
       → take start mem ++ (ws ++ drop (end - start) (drop start mem)) ≡ onRegion d registry f mem
@@ -71,7 +71,7 @@ module _ (d : Numbers) (q : ℕ) (mem : List ℕ) (start : ℕ) (at : StartsAt d
   lent-queue = lent-view d (queue q) mem start (start + 771) (at .is) (omega arith)
 
   pub queue-long : Fits d mem → q < d .queues → 771 ≤ length (take ((start + 771) - start) (drop start mem))
-  queue-long fits l = rw lent-queue (omega (arith, length-view d (queue q) mem l (fits .long-enough)))
+  queue-long fits l = rw lent-queue (queue-words d mem (fits .long-enough) q l)
 
   pub queue-back : (f : List ℕ → List ℕ) (ws : List ℕ) → ws ≡ f (take ((start + 771) - start) (drop start mem))
       → take start mem ++ (ws ++ drop ((start + 771) - start) (drop start mem)) ≡ onRegion d (queue q) f mem

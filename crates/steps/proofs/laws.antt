@@ -9,12 +9,12 @@ pub mod Stepped
 pub mod SpaceSteps
 pub mod TakeStep
 pub mod RegistrySteps
-pub mod Sound
 pub mod Cases
 pub mod Entered
 pub mod Determined
 pub mod Called
 pub mod Told
 pub mod OnlySpace
+pub mod Exhausted
 pub mod OnlyIds
 pub mod ReadyKept

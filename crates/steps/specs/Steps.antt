@@ -155,7 +155,7 @@ collectStep d p mem =
 abbrev pub childrenOf : Numbers → List ℕ → ℕ → ℕ
 childrenOf d mem p = children (links d mem) (registeredOf mem) p
 
--- ---- the statistics: word i of the head counts, in 64 bits, wrapping
+-- ---- the epoch and the statistics: word i of the head counts k more, in 64 bits, wrapping
 
-unfoldable pub countStep : ℕ → List ℕ → List ℕ
-countStep i mem = set mem i ((getD mem i 0 + 1) % 2 ^ 64)
+unfoldable pub addStep : ℕ → ℕ → List ℕ → List ℕ
+addStep i k mem = set mem i ((getD mem i 0 + k) % 2 ^ 64)

@@ -9,7 +9,7 @@ ghost use Rattle.world.specs.Numbers.{registeredOf, recycledOf};
 ghost use Rattle.world.specs.Regions.{registry, view};
 ghost use Rattle.world.specs.Sound.{ids, states, links};
 ghost use Rattle.steps.specs.Ready.{Ready};
-ghost use Rattle.steps.specs.Steps.{placeIn, objects, registerStep, listStep, unregisterStep, recycleStep, collectStep, childrenOf, countStep};
+ghost use Rattle.steps.specs.Steps.{placeIn, objects, registerStep, listStep, unregisterStep, recycleStep, collectStep, childrenOf, addStep};
 use world::Numbers;
 use world::regions::registry_at;
 
@@ -126,7 +126,10 @@ pub fn child_count(mem: &[u64], d: Numbers, p: usize) -> usize
 // The ids of the children of place p, in list order, to the front of `area`.
 pub fn list_children(mem: &[u64], d: Numbers, p: usize, area: &mut [u64])
     requires { ⌜ Ready d (now mem) × (p ≤ d .places) × (childrenOf d (now mem) p ≤ length (now area)) ⌝ }
-    ensures { λ _. ⌜ now (area .exit) ≡ written (childIds (d .places) p (registeredOf (now (mem .entry))) (view d registry (now (mem .entry)))) (now (area .entry)) ⌝ }
+    ensures { λ _. ⌜
+        now (area .exit)
+        ≡ written (childIds (d .places) p (registeredOf (now (mem .entry))) (view d registry (now (mem .entry)))) (now (area .entry))
+        ⌝ }
 {
     let start = registry_at(d);
     let end = start + 5 * d.places + 1;
@@ -153,10 +156,10 @@ pub fn edges(mem: &[u64], d: Numbers) -> usize
     registry::children::edges(&mem[start..end], d.places, mem[11] as usize)
 }
 
-// Word i of the head, a statistic, counts one more.
-pub fn count(mem: &mut [u64], i: usize)
+// Word i of the head, the epoch or a statistic, counts k more.
+pub fn add(mem: &mut [u64], i: usize, k: usize)
     requires { ⌜ (i < 16) × (16 ≤ length (now mem)) ⌝ }
-    ensures { λ _. ⌜ now (mem .exit) ≡ countStep i (now (mem .entry)) ⌝ }
+    ensures { λ _. ⌜ now (mem .exit) ≡ addStep i k (now (mem .entry)) ⌝ }
 {
-    mem[i] = std::num::wrapping_add_u64(mem[i], 1);
+    mem[i] = std::num::wrapping_add_u64(mem[i], k as u64);
 }

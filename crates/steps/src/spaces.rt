@@ -69,7 +69,10 @@ pub fn get_entry(mem: &[u64], d: Numbers, s: usize, id: u64) -> LookedUp
 
 pub fn nth_entry(mem: &[u64], d: Numbers, s: usize, n: usize) -> Nth
     requires { ⌜ Ready d (now mem) × (s < d .spaces) ⌝ }
-    ensures { λ r. ⌜ r ≡ nthOf (liveEntries (slotWords (spaceOf d s (now (mem .entry)))) 0 (tableOf (spaceOf d s (now (mem .entry))) .slots)) n ⌝ }
+    ensures { λ r. ⌜
+        r
+        ≡ nthOf (liveEntries (slotWords (spaceOf d s (now (mem .entry)))) 0 (tableOf (spaceOf d s (now (mem .entry))) .slots)) n
+        ⌝ }
 {
     let start = space_at(d, s);
     let end = start + width(d);
@@ -89,7 +92,10 @@ pub fn next_generation(mem: &mut [u64], d: Numbers, s: usize)
 fn insert_entry(mem: &mut [u64], d: Numbers, s: usize, entry: CapabilityEntry) -> Insertion
     requires { ⌜ Ready d (now mem) × (s < d .spaces) ⌝ }
     ensures { λ r. ⌜ now (mem .exit) ≡ onRegion d (space s) (λ sp. insertOut sp entry .words) (now (mem .entry)) ⌝ }
-    ensures { λ r. ⌜ (r .answer ≡ insertOut (spaceOf d s (now (mem .entry))) entry .answer) × (r .moved ≡ insertOut (spaceOf d s (now (mem .entry))) entry .moved) ⌝ }
+    ensures { λ r. ⌜
+        (r .answer ≡ insertOut (spaceOf d s (now (mem .entry))) entry .answer)
+        × (r .moved ≡ insertOut (spaceOf d s (now (mem .entry))) entry .moved)
+        ⌝ }
 {
     let start = space_at(d, s);
     let end = start + width(d);
@@ -100,7 +106,10 @@ fn insert_entry(mem: &mut [u64], d: Numbers, s: usize, entry: CapabilityEntry) -
 pub fn insert(mem: &mut [u64], d: Numbers, s: usize, entry: CapabilityEntry) -> Insertion
     requires { ⌜ Ready d (now mem) × (s < d .spaces) ⌝ }
     ensures { λ _. ⌜ now (mem .exit) ≡ insertStep d s entry (now (mem .entry)) ⌝ }
-    ensures { λ r. ⌜ (r .answer ≡ insertOut (spaceOf d s (now (mem .entry))) entry .answer) × (r .moved ≡ insertOut (spaceOf d s (now (mem .entry))) entry .moved) ⌝ }
+    ensures { λ r. ⌜
+        (r .answer ≡ insertOut (spaceOf d s (now (mem .entry))) entry .answer)
+        × (r .moved ≡ insertOut (spaceOf d s (now (mem .entry))) entry .moved)
+        ⌝ }
 {
     let n = mem[11] as usize;
     let capability = entry.capability;
@@ -155,7 +164,11 @@ fn ids_of(mem: &[u64], d: Numbers, s: usize, ids: &mut [u64]) -> usize
 // How many entries of space s are strays: their ids are not registered.
 pub fn strays(mem: &[u64], d: Numbers, s: usize) -> usize
     requires { ⌜ Ready d (now mem) × (s < d .spaces) ⌝ }
-    ensures { λ r. ⌜ r ≡ derivation.strays (registeredOf (now (mem .entry))) (view d registry (now (mem .entry))) (entryIds (spaceOf d s (now (mem .entry)))) ⌝ }
+    ensures { λ r. ⌜
+        r
+        ≡ derivation.strays (registeredOf (now (mem .entry))) (view d registry (now (mem .entry)))
+        (entryIds (spaceOf d s (now (mem .entry))))
+        ⌝ }
 {
     let mut ids = [0u64; 512];
     let count = ids_of(mem, d, s, &mut ids);

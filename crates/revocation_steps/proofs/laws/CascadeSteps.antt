@@ -17,13 +17,15 @@ use Rattle.revocation.specs.LogLaws.{OneOf, absent-exactly, absent-differ, abse
 use Rattle.world.specs.Numbers.{nextOf, registeredOf, recycledOf, loggedOf}
 use Rattle.world.specs.Regions.{space, registry, log, queue, lengthFor, view, onRegion}
 use Rattle.world.specs.Sound.{spacesWith, SoundAt}
-use Rattle.world.specs.Views.{length-view}
+use Rattle.world.specs.Views.{registry-words}
 use Rattle.world.specs.declared.Numbers.{Numbers}
-use Rattle.revocation_steps.specs.Revocation.{addStep, logStep, cascade, cascadeIds, cascadePairs, revokeStep}
+use Rattle.revocation_steps.specs.Revocation.{logStep, cascade, cascadeIds, cascadePairs, revokeStep}
+use Rattle.steps.specs.Steps.{addStep}
 use Rattle.steps.proofs.laws.Kept.{Kept, kept-trans, registry-rules}
 use Rattle.steps.proofs.laws.RegistryChanged.{RegistryChanged, only-registry-changed, recycled-changed-kept}
 use Rattle.revocation_steps.proofs.laws.SameHoldings.{SameHoldings}
-use Rattle.revocation_steps.proofs.laws.LogSteps.{log-step-word, log-step-holdings, log-step-queue, log-step-logged, log-step-log, log-step-kept, add-step, add-step-kept}
+use Rattle.revocation_steps.proofs.laws.LogSteps.{log-step-word, log-step-holdings, log-step-queue, log-step-logged, log-step-log, log-step-kept}
+use Rattle.steps.proofs.laws.RegistrySteps.{add-step, add-step-kept}
 use Rattle.revocation_steps.proofs.laws.QueueSteps.{QueuesKept, notify-all}
 use Rattle.revocation_steps.proofs.laws.Cascade.{cascade-below, cascade-ids-differ, cascade-ids-coded}
 
@@ -34,7 +36,7 @@ pub marks :
     (onRegion d registry (marked (d .places) ks) mem)
 marks d mem enough ks inside =
     only-registry-changed d mem enough (marked (d .places) ks)
-    (marked-only (d .places) ks _ inside (omega (arith, length-view d registry mem tt enough)) .same-length)
+    (marked-only (d .places) ks _ inside (registry-words d mem enough) .same-length)
 
 -- What a cascade from place r leaves but for its notices.
 abbrev pub unnotified : Numbers → ℕ → List ℕ → List ℕ
@@ -54,7 +56,7 @@ module _ (d : Numbers) (mem : List ℕ) (sound : SoundAt d mem) (r : ℕ) (insid
   ks = cascade d mem r
 
   long : 5 * d .places + 1 ≤ length rg
-  long = omega (arith, length-view d registry mem tt (sound .long-enough))
+  long = registry-words d mem (sound .long-enough)
 
   -- ---- the places are marked
 

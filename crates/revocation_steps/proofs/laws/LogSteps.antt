@@ -1,5 +1,5 @@
 -- Pairs join the log: of the memory only the log and the number of its pairs change, and a sound memory is kept where the pairs are coded,
--- differ and are not logged yet. And a word of the head counts on, which no rule reads.
+-- differ and are not logged yet.
 use mathlib.Core.Path.{_≡_, refl, _∙_}
 use mathlib.Core.Logic.{_≢_}
 use mathlib.Core.Bool.{false}
@@ -19,7 +19,7 @@ use Rattle.world.specs.Regions.{Region, head, space, registry, log, queue, leng
 use Rattle.world.specs.Sound.{SoundAt}
 use Rattle.world.specs.Views.{Change, set-head, set-changes, length-view, length-kept, view-same, view-other, past-kept, head-kept, numbers-kept}
 use Rattle.world.specs.declared.Numbers.{Numbers}
-use Rattle.revocation_steps.specs.Revocation.{addStep, logStep}
+use Rattle.revocation_steps.specs.Revocation.{logStep}
 use Rattle.steps.proofs.laws.Ready.{head-fits}
 use Rattle.steps.proofs.laws.Kept.{Kept, set-view, registry-rules}
 use Rattle.steps.proofs.laws.RegistryChanged.{RegistryChanged, word-changed, changed-kept}
@@ -111,19 +111,3 @@ module _ (d : Numbers) (mem : List ℕ) (sound : SoundAt d mem) (pairs : List �
             let second-queue = same-queue j l in
             sound .pids-differ j l i u (rw first-queue at a) (rw second-queue at b) (rw (first-queue, second-queue) at e);
       })
-
--- ---- the epoch or a statistic counts
-
-pub add-step :
-    (d : Numbers) (mem : List ℕ) → lengthFor d ≤ length mem → (i k : ℕ) → 6 ≤ i → i < 11
-    → RegistryChanged d (view d registry mem) i ((getD mem i 0 + k) % 2 ^ 64) mem (addStep i k mem)
-unfolding addStep
-add-step d mem enough i k low high = word-changed d mem enough i ((getD mem i 0 + k) % 2 ^ 64) (omega arith) (omega arith)
-
-pub add-step-kept : (d : Numbers) (mem : List ℕ) → SoundAt d mem → (i k : ℕ) → 6 ≤ i → i < 11 → Kept d mem (addStep i k mem)
-add-step-kept d mem sound i k low high =
-    let changed = add-step d mem (sound .long-enough) i k low high in
-    changed-kept d mem sound (view d registry mem) i _ (addStep i k mem) changed (registeredOf mem) (recycledOf mem) (nextOf mem)
-    (changed .same-word 11 (omega arith) (omega arith)) (changed .same-word 12 (omega arith) (omega arith))
-    (changed .same-word 5 (omega arith) (omega arith)) (sound .registered-fit) (sound .recycled-fit) (sound .next-low)
-    (sound .next-high) (registry-rules d mem sound)

@@ -21,7 +21,7 @@ use Rattle.revocation.specs.Sound.{SoundQueue}
 use Rattle.revocation.specs.Words.{pidOf, lengthOf}
 use Rattle.world.specs.Regions.{queue, view, onRegion}
 use Rattle.world.specs.Sound.{pids, lengths, SoundAt}
-use Rattle.world.specs.Views.{length-view}
+use Rattle.world.specs.Views.{length-view, queue-words}
 use Rattle.world.specs.declared.Numbers.{Numbers}
 use Rattle.revocation_steps.specs.Revocation.{queueFor, freeQueue, notifyStep, freeStep, freeQueues}
 use Rattle.revocation_steps.proofs.Notifying.{notify-pushes, notify-begins}
@@ -158,7 +158,7 @@ module _ (d : Numbers) (mem : List ℕ) (sound : SoundAt d mem) (pid id time rea
   words = id ∷ time ∷ reason ∷ []
 
   long : (q : ℕ) → q < d .queues → 771 ≤ length (view d (queue q) mem)
-  long q l = omega (arith, length-view d (queue q) mem l (sound .long-enough))
+  long q l = queue-words d mem (sound .long-enough) q l
 
   sound-after : SoundAt d (notifyStep d pid id time reason mem)
   sound-after = notify-step d mem sound pid id time reason coded .kept .sound

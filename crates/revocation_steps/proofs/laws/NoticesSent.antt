@@ -101,20 +101,6 @@ unfoldable pub sentTo : ℕ → List ℕ → List ℕ → ℕ → List ℕ
 sentTo pid listed [] time = []
 sentTo pid listed (id ∷ later) time = wordsFor pid listed id time ++ sentTo pid listed later time
 
--- A pid that is not listed gets nothing.
-no-words : (pid : ℕ) (listed : List ℕ) → isIn pid listed ≡ false → (id time : ℕ) → wordsFor pid listed id time ≡ []
-unfolding wordsFor
-no-words pid [] none id time = refl
-no-words pid (x ∷ listed) none id time =
-    by-cases (ℕ-discrete x pid)
-    (λ same. absurd (true≢false (rw (same, eq-eqb pid pid refl) at none)))
-    (λ other. rw (ne-eqb x pid other) (no-words pid listed (rw (ne-eqb pid x (λ e. other (sym e))) at none) id time))
-
-pub nothing-sent : (pid : ℕ) (listed : List ℕ) → isIn pid listed ≡ false → (ids : List ℕ) (time : ℕ) → sentTo pid listed ids time ≡ []
-unfolding sentTo
-nothing-sent pid listed none [] time = refl
-nothing-sent pid listed none (id ∷ later) time = rw (no-words pid listed none id time) (nothing-sent pid listed none later time)
-
 -- ---- it joins its notices
 
 module _ (d : Numbers) where

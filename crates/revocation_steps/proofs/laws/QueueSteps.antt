@@ -18,7 +18,7 @@ use Rattle.revocation.specs.Sound.{SoundQueue, PidsDiffer}
 use Rattle.revocation.specs.Words.{pidOf, lengthOf}
 use Rattle.world.specs.Regions.{space, registry, log, queue, view, onRegion}
 use Rattle.world.specs.Sound.{pids, lengths, SoundAt}
-use Rattle.world.specs.Views.{Change, length-view, length-kept, view-same, view-other, past-kept, head-kept, numbers-kept}
+use Rattle.world.specs.Views.{Change, length-kept, view-same, view-other, past-kept, head-kept, numbers-kept, queue-words}
 use Rattle.world.specs.declared.Numbers.{Numbers}
 use Rattle.revocation_steps.specs.Revocation.{queueFor, freeQueue, notifyStep, notifyPids, notifyAll, freeStep}
 use Rattle.steps.proofs.laws.Kept.{Kept, kept-refl, kept-trans}
@@ -130,7 +130,7 @@ module _ (d : Numbers) (mem : List ℕ) (sound : SoundAt d mem) (q : ℕ) (insid
 
 module _ (d : Numbers) (mem : List ℕ) (sound : SoundAt d mem) where
   long : (q : ℕ) → q < d .queues → 771 ≤ length (view d (queue q) mem)
-  long q l = omega (arith, length-view d (queue q) mem l (sound .long-enough))
+  long q l = queue-words d mem (sound .long-enough) q l
 
   -- Two places with one pid are one queue.
   one-queue : (i j : ℕ) → i < d .queues → j < d .queues → i ≢ j → 0 < lengths d mem i → 0 < lengths d mem j → pids d mem i ≢ pids d mem j

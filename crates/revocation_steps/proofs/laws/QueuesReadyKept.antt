@@ -2,8 +2,7 @@
 -- sound. A notice asks only of the length and of the queues.
 use mathlib.Core.Path.{_≡_}
 use mathlib.Core.List.{List}
-use Prim.Native.Nat.{ℕ, _+_, _*_, _%_, _^_, _≤_, _<_}
-use native.Mathlib.Omega.{arith}
+use Prim.Native.Nat.{ℕ, _+_, _%_, _^_, _≤_, _<_}
 use lib.ListN.{length, getD}
 use Rattle.registry.specs.Descent.{marked}
 use Rattle.registry.specs.MarkedLaws.{marked-only}
@@ -11,12 +10,14 @@ use Rattle.registry.specs.PlaceLists.{AllBelow}
 use Rattle.steps.specs.Ready.{Ready, QueuesReady}
 use Rattle.world.specs.Numbers.{loggedOf}
 use Rattle.world.specs.Regions.{registry, queue, lengthFor, view, onRegion}
-use Rattle.world.specs.Views.{length-view}
+use Rattle.world.specs.Views.{registry-words}
 use Rattle.world.specs.declared.Numbers.{Numbers}
-use Rattle.revocation_steps.specs.Revocation.{addStep, logStep}
+use Rattle.revocation_steps.specs.Revocation.{logStep}
+use Rattle.steps.specs.Steps.{addStep}
 use Rattle.steps.proofs.laws.Kept.{Apart}
 use Rattle.steps.proofs.laws.ReadyKept.{Stays, Leaves, registry-stays, word-leaves}
-use Rattle.revocation_steps.proofs.laws.LogSteps.{log-step-holdings, log-step-queue, add-step}
+use Rattle.revocation_steps.proofs.laws.LogSteps.{log-step-holdings, log-step-queue}
+use Rattle.steps.proofs.laws.RegistrySteps.{add-step}
 use Rattle.revocation_steps.proofs.laws.CascadeSteps.{marks}
 
 -- ---- what a notice asks
@@ -53,8 +54,4 @@ module _ (d : Numbers) (mem : List ℕ) (ready : Ready d mem) where
   pub mark-stays : (ks : List ℕ) → AllBelow (d .places) ks → Stays d mem (onRegion d registry (marked (d .places) ks) mem)
   mark-stays ks inside =
       registry-stays d mem ready (marked (d .places) ks)
-      (marked-only (d .places) ks _ inside (omega (arith, length-view d registry mem tt (ready .fits .long-enough))) .same-length)
-
-  pub add-leaves : (i k : ℕ) → 6 ≤ i → i < 11 → Leaves d i ((getD mem i 0 + k) % 2 ^ 64) mem (addStep i k mem)
-  unfolding addStep
-  add-leaves i k low high = word-leaves d mem ready i _ (omega arith) (λ e. omega arith) (λ e. omega arith)
+      (marked-only (d .places) ks _ inside (registry-words d mem (ready .fits .long-enough)) .same-length)

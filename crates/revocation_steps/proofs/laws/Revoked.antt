@@ -16,7 +16,7 @@ use Rattle.revocation.specs.LogLaws.{OneOf, take-appended, has-joined}
 use Rattle.world.specs.Numbers.{registeredOf, loggedOf}
 use Rattle.world.specs.Regions.{registry, log, view}
 use Rattle.world.specs.Sound.{ids, states, links, recycled, SoundAt}
-use Rattle.world.specs.Views.{length-view}
+use Rattle.world.specs.Views.{length-view, registry-words}
 use Rattle.world.specs.declared.Numbers.{Numbers}
 use Rattle.revocation_steps.specs.Revocation.{cascadeIds, cascadePairs, revokeStep}
 use Rattle.revocation_steps.proofs.laws.CascadeSteps.{cascade-marked, revoke-step-registry, revoke-step-logged, revoke-step-log}
@@ -36,7 +36,7 @@ module _ (d : Numbers) (mem : List ℕ) (sound : SoundAt d mem) (r : ℕ) (insid
     registry-after = revoke-step-registry d mem sound r inside fits time pids ∙ cascade-marked d mem sound r inside
 
     long : 5 * d .places + 1 ≤ length rg
-    long = omega (arith, length-view d registry mem tt (sound .long-enough))
+    long = registry-words d mem (sound .long-enough)
 
     only : OnlyMarked (d .places) found rg (view d registry (revokeStep d r time pids mem))
     only = rw registry-after (descent-marked-only (d .places) (registeredOf mem) rg r inside (sound .registered-fit) long (sound .linked))

@@ -8,13 +8,10 @@ use Rattle.world.specs.declared.Numbers.{Numbers}
 use Rattle.steps.specs.Enter.{onWorld, onSpace}
 use Rattle.steps.specs.Replies.{Left}
 use Rattle.steps.proofs.laws.Entered.{world-by-cases, space-by-cases}
-use Rattle.steps.proofs.laws.Kept.{Kept, kept-refl, kept-sound}
+use Rattle.steps.proofs.laws.Kept.{Kept, kept-refl}
 
 abbrev pub Keeps : {A : Type 0} → List ℕ → Left A → Type 0
 Keeps mem out = Kept (numbersOf mem) mem (out .memory)
-
-pub sound-after : {A : Type 0} (mem : List ℕ) (out : Left A) → Keeps mem out → Sound (out .memory)
-sound-after mem out kept = kept-sound mem (out .memory) kept
 
 module _ (mem : List ℕ) (sound : Sound mem) {A : Type 0} (refusing : Answer → A) (call : Numbers → Left A) where
   pub on-world :

@@ -46,9 +46,6 @@ module _ {A : Type 0} (P : A → Type 0) (refuse : Answer → A) (mem : List ℕ
         go false t c l = bad (unsound mem t)
 
 module _ {A : Type 0} (refuse : Answer → A) (mem : List ℕ) (call : Numbers → A) where
-  pub world-bad : ¬ Sound mem → onWorld refuse mem call ≡ refuse BadWorld
-  world-bad bad = world-by-cases (λ r. r ≡ refuse BadWorld) refuse mem call (λ b. refl) (λ sound. absurd (bad sound))
-
   pub space-bad : (s : ℕ) → ¬ Sound mem → onSpace refuse mem s call ≡ refuse BadWorld
   space-bad s bad =
       space-by-cases (λ r. r ≡ refuse BadWorld) refuse mem call (λ b. refl) s

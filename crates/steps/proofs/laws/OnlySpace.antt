@@ -5,7 +5,6 @@ use mathlib.Core.List.{List}
 use mathlib.Core.Logic.{_≢_}
 use mathlib.Core.Path.{_≡_, refl, sym, subst, _∙_}
 use Prim.Native.Nat.{ℕ, _+_, _*_, _%_, _^_, _≤_, _<_}
-use native.Mathlib.Omega.{arith}
 use borrow.Author.Tests.{ne-eqb}
 use lib.Dec.{eqb}
 use lib.ListN.{length, getD}
@@ -26,7 +25,7 @@ use Rattle.table.specs.declared.CapabilityEntry.{CapabilityEntry}
 use Rattle.world.specs.Numbers.{registeredOf}
 use Rattle.world.specs.Regions.{space, registry, log, queue, lengthFor, view, onRegion}
 use Rattle.world.specs.Sound.{SoundAt}
-use Rattle.world.specs.Views.{Change, length-view, length-kept, view-same, view-other, head-kept}
+use Rattle.world.specs.Views.{Change, length-kept, view-same, view-other, head-kept, registry-words}
 use Rattle.world.specs.declared.Numbers.{Numbers}
 
 pub record OnlySpace (d : Numbers) (s : ℕ) (mem after : List ℕ) : Type 0 where
@@ -83,7 +82,7 @@ module _ (d : Numbers) (s : ℕ) (mem : List ℕ) (valid : s < d .spaces) where
       → ((rg : List ℕ) → 5 * d .places + 1 ≤ length rg → HoldersOnly (d .places) rg (g rg)) → Step d s mem (onRegion d registry g mid) sp
   with-holders mid sp g st counts =
       let rg : List ℕ = view d registry mid in
-      let holds : HoldersOnly (d .places) rg (g rg) = counts rg (omega (arith, length-view d registry mid tt (st .fits))) in
+      let holds : HoldersOnly (d .places) rg (g rg) = counts rg (registry-words d mid (st .fits)) in
       let ch : Change d registry g mid = record { valid = tt; long = st .fits; kept = holds .same-length } in
       record {
         only = only-trans d s mem mid _ (st .only)

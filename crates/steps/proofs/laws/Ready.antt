@@ -6,9 +6,8 @@ use native.Mathlib.Decide.{decLt}
 use native.Mathlib.Omega.{arith}
 use Rattle.space.specs.Sound.{SpaceOf}
 use Rattle.world.specs.Layout.{inside}
-use Rattle.world.specs.Numbers.{numbersOf}
 use Rattle.world.specs.Regions.{head, space, widthOf, lengthFor, startOf, view}
-use Rattle.world.specs.Sound.{SoundAt, Sound, lengths}
+use Rattle.world.specs.Sound.{SoundAt, lengths}
 use Rattle.world.specs.Views.{length-view}
 use Rattle.world.specs.declared.Numbers.{Numbers}
 use Rattle.steps.specs.Ready.{Ready, QueuesReady}
@@ -41,6 +40,3 @@ module _ (d : Numbers) (mem : List ℕ) (sound : SoundAt d mem) where
     firsts = λ q l used. sound .queues q l used .coded-first;
     lengths = λ q l. by-cases (decLt 0 (lengths d mem q)) (λ used. sound .queues q l used .short) (λ free. omega arith);
   }
-
-pub sound-ready : (mem : List ℕ) → Sound mem → Ready (numbersOf mem) mem
-sound-ready mem sound = ready-at (numbersOf mem) mem sound

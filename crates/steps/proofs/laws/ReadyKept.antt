@@ -17,7 +17,8 @@ use Rattle.registry.specs.HoldersLaws.{HoldersOnly, held-only, released-only, h
 use Rattle.registry.specs.Ids.{firstTaken, recycledWith}
 use Rattle.registry.specs.IdsLaws.{length-taken, length-recycled-with}
 use Rattle.registry.specs.Registering.{registered, listGiven, unregistered, collected}
-use Rattle.registry.specs.RegisteringLaws.{length-registered, length-list-given, length-unregistered}
+use Rattle.registry.specs.RegisteringLaws.{length-registered, length-list-given}
+use Rattle.registry.specs.UnregisteringLaws.{length-unregistered}
 use Rattle.space.specs.Change.{insertOut, removedToken, cleared, nextGeneration}
 use Rattle.space.specs.Copy.{copiedSpace}
 use Rattle.space.specs.Ids.{entryIds}
@@ -28,10 +29,10 @@ use Rattle.table.specs.Slots.{idOf}
 use Rattle.table.specs.declared.CapabilityEntry.{CapabilityEntry}
 use Rattle.world.specs.Numbers.{nextOf, registeredOf, recycledOf}
 use Rattle.world.specs.Regions.{space, registry, view, onRegion}
-use Rattle.world.specs.Views.{Change, length-view, length-kept, view-same, view-other, head-kept}
+use Rattle.world.specs.Views.{Change, length-kept, view-same, view-other, head-kept, registry-words}
 use Rattle.world.specs.declared.Numbers.{Numbers}
 use Rattle.steps.specs.Ready.{Ready}
-use Rattle.steps.specs.Steps.{spaceOf, isEntry, lookupStep, nextStep, holdStep, releaseStep, holdAllStep, releaseAllStep, insertStep, removeStep, clearStep, copyStep, takenId, takeStep, registerStep, listStep, unregisterStep, recycleStep, collectStep, countStep}
+use Rattle.steps.specs.Steps.{spaceOf, isEntry, lookupStep, nextStep, holdStep, releaseStep, holdAllStep, releaseAllStep, insertStep, removeStep, clearStep, copyStep, takenId, takeStep, registerStep, listStep, unregisterStep, recycleStep, collectStep, addStep}
 use Rattle.steps.specs.declared.Taken.{Taken}
 use Rattle.steps.specs.declared.Taken.the-variants.{Id}
 use Rattle.steps.proofs.Entries.{still-fits}
@@ -141,7 +142,7 @@ module _ (d : Numbers) (mem : List ℕ) (ready : Ready d mem) where
       → ((rg : List ℕ) → 5 * d .places + 1 ≤ length rg → HoldersOnly (d .places) rg (g rg)) → Stays d mem (onRegion d registry g mid)
   holders-stay mid g st counts =
       let long : 5 * d .places + 1 ≤ length (view d registry mid) =
-      omega (arith, length-view d registry mid tt (st .ready .fits .long-enough)) in
+      registry-words d mid (st .ready .fits .long-enough) in
       stays-trans d mem mid (onRegion d registry g mid) st
       (registry-stays d mid (st .ready) g (counts (view d registry mid) long .same-length))
 
@@ -214,21 +215,6 @@ module _ (d : Numbers) (mem : List ℕ) (ready : Ready d mem) (s : ℕ) (valid :
   pub ready-lookup : (token : ℕ) → Ready d (lookupStep d s token mem)
   ready-lookup token = lookup-stays token .ready
 
-  pub ready-next : Ready d (nextStep d s mem)
-  ready-next = next-stays .ready
-
-  pub ready-insert : (e : CapabilityEntry) → e .rights .0 < 2 ^ 32 → Ready d (insertStep d s e mem)
-  ready-insert e rights = insert-stays e rights .ready
-
-  pub ready-remove : (token : ℕ) → Ready d (removeStep d s token mem)
-  ready-remove token = remove-stays token .ready
-
-  pub ready-clear : Ready d (clearStep d s mem)
-  ready-clear = clear-stays .ready
-
-  pub ready-copy : (source : ℕ) → source < d .spaces → Ready d (copyStep d s source mem)
-  ready-copy source from = copy-stays source from .ready
-
 -- ---- taking an id
 
 -- An id was taken, or none: the words of the head stay but for the next id and the count of recycled ids. Where one was taken, there is
@@ -249,7 +235,7 @@ module _ (d : Numbers) (mem : List ℕ) (ready : Ready d mem) where
   m = recycledOf mem
 
   long : 5 * d .places + 1 ≤ length rg
-  long = omega (arith, length-view d registry mem tt (ready .fits .long-enough))
+  long = registry-words d mem (ready .fits .long-enough)
 
   again-taken : 0 < m → Takes d mem (takenId d mem) (takeStep d mem)
   again-taken some =
@@ -287,9 +273,6 @@ module _ (d : Numbers) (mem : List ℕ) (ready : Ready d mem) where
   pub ready-take : Ready d (takeStep d mem)
   ready-take = take-leaves .ready
 
-  pub take-registered : registeredOf (takeStep d mem) ≡ registeredOf mem
-  take-registered = take-leaves .others 11 (omega arith) (λ e. omega arith) (λ e. omega arith)
-
   pub take-room : (id : ℕ) → takenId d mem ≡ Id id → recycledOf (takeStep d mem) ≤ d .places
   take-room = take-leaves .room
 
@@ -302,16 +285,10 @@ module _ (d : Numbers) (mem : List ℕ) (ready : Ready d mem) where
         registry-and-word-leaves d mem ready (registered (d .places) n id object link)
         (length-registered (d .places) n id object link rg room long) 11 (n + 1) (omega arith) (λ e. omega arith) (λ e. omega arith)
 
-    pub ready-register : Ready d (registerStep d id object link mem)
-    ready-register = register-leaves .ready
-
   module _ (p : ℕ) (inside : p < d .places) where
     pub list-stays : Stays d mem (listStep d p mem)
     unfolding listStep
     list-stays = registry-stays d mem ready (listGiven (d .places) p) (length-list-given (d .places) p rg inside long)
-
-    pub ready-list : Ready d (listStep d p mem)
-    ready-list = list-stays .ready
 
   module _ (k : ℕ) (inside : k < registeredOf mem) where
     pub unregister-leaves : Leaves d 11 (registeredOf mem - 1) mem (unregisterStep d k mem)
@@ -321,18 +298,12 @@ module _ (d : Numbers) (mem : List ℕ) (ready : Ready d mem) where
         (length-unregistered (d .places) n k rg inside (ready .registered-fit) long) 11 (n - 1) (omega arith)
         (λ e. omega (arith, ready .registered-fit)) (λ e. omega arith)
 
-    pub ready-unregister : Ready d (unregisterStep d k mem)
-    ready-unregister = unregister-leaves .ready
-
   module _ (id : ℕ) (room : recycledOf mem ≤ d .places) where
     pub recycle-leaves : Leaves d 12 (recycledOf mem + 1) mem (recycleStep d id mem)
     unfolding recycleStep
     recycle-leaves =
         registry-and-word-leaves d mem ready (recycledWith (d .places) m id) (length-recycled-with (d .places) m id rg room long)
         12 (m + 1) (omega arith) (λ e. omega arith) (λ e. omega arith)
-
-    pub ready-recycle : Ready d (recycleStep d id mem)
-    ready-recycle = recycle-leaves .ready
 
   module _ (p : ℕ) where
     -- No more are left than there were; p need not be registered.
@@ -346,11 +317,6 @@ module _ (d : Numbers) (mem : List ℕ) (ready : Ready d mem) where
     pub ready-collect : Ready d (collectStep d p mem)
     ready-collect = collect-leaves .ready
 
-  module _ (i : ℕ) (inside : i < 16) (not-registered : i ≢ 11) (not-recycled : i ≢ 12) where
-    pub count-leaves : Leaves d i ((getD mem i 0 + 1) % 2 ^ 64) mem (countStep i mem)
-    unfolding countStep
-    count-leaves =
-        word-leaves d mem ready i _ inside (λ e. absurd (not-registered e)) (λ e. absurd (not-recycled e))
-
-    pub ready-count : Ready d (countStep i mem)
-    ready-count = count-leaves .ready
+  pub add-leaves : (i k : ℕ) → 6 ≤ i → i < 11 → Leaves d i ((getD mem i 0 + k) % 2 ^ 64) mem (addStep i k mem)
+  unfolding addStep
+  add-leaves i k low high = word-leaves d mem ready i _ (omega arith) (λ e. omega arith) (λ e. omega arith)

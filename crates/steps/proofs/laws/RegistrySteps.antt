@@ -1,6 +1,6 @@
 -- Each step of the registry keeps a sound memory: the registry as its own laws say, and its number of registered or recycled ids with it.
 -- `..-step` says what stands after a step, `..-step-kept` that it keeps. And an id that leaves the registry is free, so it can be recycled.
-use mathlib.Core.Path.{_≡_, sym, ap, subst, _∙_}
+use mathlib.Core.Path.{sym, _∙_}
 use mathlib.Core.List.{List}
 use Prim.Native.Nat.{ℕ, _+_, _-_, _*_, _%_, _^_, _≤_, _<_}
 use native.Mathlib.Omega.{arith}
@@ -9,16 +9,17 @@ use Rattle.registry.specs.CollectionLaws.{collected-left, length-collected, col
 use Rattle.registry.specs.Ids.{recycledWith}
 use Rattle.registry.specs.IdsLaws.{length-recycled-with, recycled-with-keeps}
 use Rattle.registry.specs.Registering.{registered, listGiven, unregistered, collected}
-use Rattle.registry.specs.RegisteringLaws.{Parent, length-registered, registered-new, registered-keeps, length-list-given, list-given-keeps, length-unregistered, unregistered-id, unregistered-before, unregistered-keeps}
+use Rattle.registry.specs.RegisteringLaws.{Parent, length-registered, registered-keeps, length-list-given, list-given-keeps}
+use Rattle.registry.specs.UnregisteringLaws.{length-unregistered, unregistered-id, unregistered-before, unregistered-keeps}
 use Rattle.registry.specs.Rules.{RegistryRules}
 use Rattle.registry.specs.Without.{left-out}
 use Rattle.registry.specs.Words.{idAt}
 use Rattle.world.specs.Numbers.{nextOf, registeredOf, recycledOf}
-use Rattle.world.specs.Regions.{registry, view}
+use Rattle.world.specs.Regions.{lengthFor, registry, view}
 use Rattle.world.specs.Sound.{ids, spacesWith, SoundAt}
-use Rattle.world.specs.Views.{length-view}
+use Rattle.world.specs.Views.{registry-words}
 use Rattle.world.specs.declared.Numbers.{Numbers}
-use Rattle.steps.specs.Steps.{registerStep, listStep, unregisterStep, recycleStep, collectStep, countStep}
+use Rattle.steps.specs.Steps.{registerStep, listStep, unregisterStep, recycleStep, collectStep, addStep}
 use Rattle.steps.proofs.laws.Kept.{Kept, kept-trans, registry-rules}
 use Rattle.steps.proofs.laws.RegistryChanged.{RegistryChanged, registry-changed, word-changed, only-registry-changed, changed-kept, registered-changed-kept, recycled-changed-kept}
 use Rattle.steps.proofs.laws.TakeStep.{Free}
@@ -40,7 +41,7 @@ module _ (d : Numbers) (mem : List ℕ) (sound : SoundAt d mem) where
   rules = registry-rules d mem sound
 
   long : 5 * d .places + 1 ≤ length rg
-  long = omega (arith, length-view d registry mem tt (sound .long-enough))
+  long = registry-words d mem (sound .long-enough)
 
   -- ---- an id is registered
 
@@ -132,19 +133,21 @@ module _ (d : Numbers) (mem : List ℕ) (sound : SoundAt d mem) where
         registered-changed-kept d mem sound _ _ _ collect-step (omega (arith, fit, collected-left (d .places) p n rg inside fit long))
         (collected-keeps (d .places) p n rg inside fit long m next (spacesWith d mem) rules)
 
-  -- ---- a statistic counts
+-- ---- the epoch or a statistic counts
 
-  module _ (i : ℕ) (low : 7 ≤ i) (high : i < 11) where
-    pub count-step : RegistryChanged d rg i ((getD mem i 0 + 1) % 2 ^ 64) mem (countStep i mem)
-    unfolding countStep
-    count-step = word-changed d mem (sound .long-enough) i ((getD mem i 0 + 1) % 2 ^ 64) (omega arith) (omega arith)
+pub add-step :
+    (d : Numbers) (mem : List ℕ) → lengthFor d ≤ length mem → (i k : ℕ) → 6 ≤ i → i < 11
+    → RegistryChanged d (view d registry mem) i ((getD mem i 0 + k) % 2 ^ 64) mem (addStep i k mem)
+unfolding addStep
+add-step d mem enough i k low high = word-changed d mem enough i ((getD mem i 0 + k) % 2 ^ 64) (omega arith) (omega arith)
 
-    pub count-step-kept : Kept d mem (countStep i mem)
-    count-step-kept =
-        changed-kept d mem sound rg i _ (countStep i mem) count-step n m next
-        (count-step .same-word 11 (omega arith) (omega arith)) (count-step .same-word 12 (omega arith) (omega arith))
-        (count-step .same-word 5 (omega arith) (omega arith)) (sound .registered-fit) (sound .recycled-fit) (sound .next-low)
-        (sound .next-high) rules
+pub add-step-kept : (d : Numbers) (mem : List ℕ) → SoundAt d mem → (i k : ℕ) → 6 ≤ i → i < 11 → Kept d mem (addStep i k mem)
+add-step-kept d mem sound i k low high =
+    let changed = add-step d mem (sound .long-enough) i k low high in
+    changed-kept d mem sound (view d registry mem) i _ (addStep i k mem) changed (registeredOf mem) (recycledOf mem) (nextOf mem)
+    (changed .same-word 11 (omega arith) (omega arith)) (changed .same-word 12 (omega arith) (omega arith))
+    (changed .same-word 5 (omega arith) (omega arith)) (sound .registered-fit) (sound .recycled-fit) (sound .next-low)
+    (sound .next-high) (registry-rules d mem sound)
 
 -- ---- one step after the other
 
@@ -157,37 +160,3 @@ recycle-after-unregister d mem sound k inside room =
     let same-recycled = unregister-step d mem sound k inside .same-word 12 (omega arith) (λ e. omega arith) in
     kept-trans d mem _ _ kept
     (recycle-step-kept d _ (kept .sound) (ids d mem k) (rw same-recycled room) (unregistered-free d mem sound k inside))
-
--- So can one whose registering is undone: it stands in the last place.
-module _ (d : Numbers) (mem : List ℕ) (sound : SoundAt d mem) (id object link : ℕ) (room : registeredOf mem < d .places) (free : Free d mem id)
-    (parent : Parent (d .places) (registeredOf mem) link (view d registry mem))
-  where
-    abbrev after : List ℕ
-    after = registerStep d id object link mem
-
-    there : Kept d mem after
-    there = register-step-kept d mem sound id object link room free parent
-
-    changed :
-        RegistryChanged d (registered (d .places) (registeredOf mem) id object link (view d registry mem)) 11 (registeredOf mem + 1) mem after
-    changed = register-step d mem sound id object link room
-
-    last : registeredOf mem < registeredOf after
-    last = omega (arith, changed .new-word)
-
-    new-id : ids d after (registeredOf mem) ≡ id
-    new-id =
-        let long : 5 * d .places + 1 ≤ length (view d registry mem) = omega (arith, length-view d registry mem tt (sound .long-enough)) in
-        ap (λ ws. idAt ws (registeredOf mem)) (changed .new-registry)
-        ∙ registered-new (d .places) (registeredOf mem) id object link (view d registry mem) room long .new-id
-
-    pub register-undone-free : Free d (unregisterStep d (registeredOf mem) (registerStep d id object link mem)) id
-    register-undone-free = subst (Free d _) new-id (unregistered-free d after (there .sound) (registeredOf mem) last)
-
-    pub register-undone-kept :
-        recycledOf mem ≤ d .places → Kept d mem (recycleStep d id (unregisterStep d (registeredOf mem) (registerStep d id object link mem)))
-    register-undone-kept recycle-room =
-        let same-recycled = changed .same-word 12 (omega arith) (λ e. omega arith) in
-        kept-trans d mem after _ there
-        (subst (λ x. Kept d after (recycleStep d x (unregisterStep d (registeredOf mem) after))) new-id
-        (recycle-after-unregister d after (there .sound) (registeredOf mem) last (rw same-recycled recycle-room)))

@@ -32,7 +32,7 @@ use Rattle.space.proofs.laws.Kept.{lookup-keeps, insert-keeps, remove-keeps, cl
 use Rattle.world.specs.Numbers.{registeredOf}
 use Rattle.world.specs.Regions.{space, registry, lengthFor, startOf, sizeOf, view, onRegion}
 use Rattle.world.specs.Sound.{hasEntry, spacesWith, SoundAt}
-use Rattle.world.specs.Views.{Change, length-view, length-kept, changed-twice}
+use Rattle.world.specs.Views.{Change, length-kept, changed-twice, registry-words}
 use Rattle.world.specs.declared.Numbers.{Numbers}
 use Rattle.steps.specs.Steps.{isEntry, lookupStep, nextStep, holdStep, releaseStep, holdAllStep, releaseAllStep, insertStep, removeStep, clearStep, copyStep}
 use Rattle.steps.proofs.laws.Ready.{space-of}
@@ -66,7 +66,7 @@ module _ (d : Numbers) (mem : List ℕ) (sound : SoundAt d mem) where
   n = registeredOf mem
 
   long : 5 * d .places + 1 ≤ length rg
-  long = omega (arith, length-view d registry mem tt (sound .long-enough))
+  long = registry-words d mem (sound .long-enough)
 
   -- An id has at most a holder a space, so no count comes near the end of a word.
   few-holders : (k : ℕ) → k < n → holders (stateAt (d .places) rg k) ≤ 64
@@ -209,7 +209,7 @@ module _ (d : Numbers) (mem : List ℕ) (sound : SoundAt d mem) where
     in-registry =
         let in-target = space-change d target (copiedSpace src) mem sound to copy-kept in
         let fits : lengthFor d ≤ length between = rw (length-kept d (space target) (copiedSpace src) mem in-target) (sound .long-enough) in
-        let room : 5 * d .places + 1 ≤ length (view d registry between) = omega (arith, length-view d registry between tt fits) in
+        let room : 5 * d .places + 1 ≤ length (view d registry between) = registry-words d between fits in
         record {
           valid = tt;
           long = fits;

@@ -17,7 +17,7 @@ use Rattle.registry.specs.Words.{idAt, stateAt, recycledAt}
 use Rattle.world.specs.Numbers.{nextOf, registeredOf, recycledOf}
 use Rattle.world.specs.Regions.{registry, view, onRegion}
 use Rattle.world.specs.Sound.{ids, recycled, spacesWith, SoundAt}
-use Rattle.world.specs.Views.{length-view}
+use Rattle.world.specs.Views.{registry-words}
 use Rattle.world.specs.declared.Numbers.{Numbers}
 use Rattle.steps.specs.Steps.{takenId, takeStep}
 use Rattle.steps.specs.declared.Taken.{Taken}
@@ -75,9 +75,9 @@ module _ (d : Numbers) (mem : List ℕ) (sound : SoundAt d mem) where
     after = set (onRegion d registry (firstTaken (d .places) m) mem) 12 (m - 1)
 
     long : 5 * d .places + 1 ≤ length rg
-    long = omega (arith, length-view d registry mem tt (sound .long-enough))
+    long = registry-words d mem (sound .long-enough)
 
-    one-less : RegistryChanged d left 12 (m - 1) mem after
+    pub one-less : RegistryChanged d left 12 (m - 1) mem after
     one-less =
         registry-changed d mem (sound .long-enough) (firstTaken (d .places) m) 12 (m - 1) (omega arith) (omega arith)
         (length-taken (d .places) m rg some (sound .recycled-fit) long)
@@ -128,7 +128,7 @@ module _ (d : Numbers) (mem : List ℕ) (sound : SoundAt d mem) where
     abbrev upped : List ℕ
     upped = set mem 5 (next + 1)
 
-    one-more : RegistryChanged d rg 5 (next + 1) mem upped
+    pub one-more : RegistryChanged d rg 5 (next + 1) mem upped
     one-more = word-changed d mem (sound .long-enough) 5 (next + 1) (omega arith) (omega arith)
 
     registered-as-was : registeredOf upped ≡ n

@@ -22,14 +22,5 @@ returns c =
 pub keep-absent-spec : {M : Type 1} → statement M
 keep-absent-spec =
     tie.close
-    (tie.spec
-    (λ c κs. search needs)
-    (λ c. search needs)
-    (λ c. search needs)
-    (λ c. search needs)
-    (λ c. search needs)
-    (λ c. search needs)
-    (λ c. search needs)
-    keep-absent-requires
-    (λ c. search needs)
-    returns)
+    (tie.spec (λ c κs. search needs) (λ c. search needs) (λ c. search needs) (λ c. search needs) (λ c. search needs) (λ c. search needs)
+    (λ c. search needs) keep-absent-requires (λ c. search needs) returns)

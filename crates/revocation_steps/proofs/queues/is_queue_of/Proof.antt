@@ -21,11 +21,5 @@ ruleset laws = (needs, used, unused)
 pub is-queue-of-spec : {M : Type 1} → statement M
 is-queue-of-spec =
     tie.close
-    (tie.spec
-    (λ c. search needs)
-    (λ c. search needs)
-    (λ c. search needs)
-    (λ c. search needs)
-    (λ c. search needs)
-    (λ c. search laws)
+    (tie.spec (λ c. search needs) (λ c. search needs) (λ c. search needs) (λ c. search needs) (λ c. search needs) (λ c. search laws)
     (λ c. search laws))

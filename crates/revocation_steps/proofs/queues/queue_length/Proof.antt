@@ -11,9 +11,4 @@ returns c = length-here _ _ _ _ (record { within = omega (arith, c .before .befo
 pub queue-length-spec : {M : Type 1} → statement M
 queue-length-spec =
     tie.close
-    (tie.spec
-    (λ c κs. search needs)
-    (λ c. search needs)
-    (λ c. search needs)
-    (λ c. search needs)
-    returns)
+    (tie.spec (λ c κs. search needs) (λ c. search needs) (λ c. search needs) (λ c. search needs) returns)

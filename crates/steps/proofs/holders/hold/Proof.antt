@@ -1,6 +1,5 @@
 -- The registry is lent to `registry::holders::hold`.
 use native.Mathlib.Omega.{arith}
-use denote.Ref.{now}
 use borrow.Author.Needs.{needs}
 use Rattle.registry.specs.Holders.{held}
 use Rattle.steps.specs.Steps.{holdStep}

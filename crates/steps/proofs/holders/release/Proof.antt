@@ -1,6 +1,5 @@
 -- The registry is lent to `registry::holders::release`.
 use native.Mathlib.Omega.{arith}
-use denote.Ref.{now}
 use borrow.Author.Needs.{needs}
 use Rattle.registry.specs.Holders.{released}
 use Rattle.steps.specs.Steps.{releaseStep}

@@ -12,9 +12,4 @@ returns c =
 pub word-at-spec : {M : Type 1} → statement M
 word-at-spec =
     tie.close
-    (tie.spec
-    (λ c κs. search needs)
-    (λ c. search needs)
-    (λ c. search needs)
-    (λ c. search needs)
-    returns)
+    (tie.spec (λ c κs. search needs) (λ c. search needs) (λ c. search needs) (λ c. search needs) returns)

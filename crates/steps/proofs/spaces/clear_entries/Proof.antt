@@ -1,7 +1,7 @@
 -- The space is lent to `space::clear`.
 use borrow.Author.Needs.{needs}
 use Rattle.space.specs.Change.{cleared}
-use Rattle.steps.proofs.Lending.{lent-space, lent-in-range, space-back}
+use Rattle.steps.proofs.Lending.{lent-in-range, space-back}
 use Rattle.steps.proofs.spaces.clear_entries.Statement.{statement}
 use Rattle.steps.proofs.spaces.clear_entries.Tie as tie
 

@@ -1,6 +1,4 @@
 -- The space is lent to its readers.
-use mathlib.Core.Path.{_≡_}
-use denote.Ref.{now}
 use borrow.Author.Needs.{needs}
 use Rattle.steps.specs.Steps.{factsOf}
 use Rattle.steps.proofs.Lending.{lent-space, lent-in-range}
@@ -60,18 +58,5 @@ returns c =
 pub facts-spec : {M : Type 1} → statement M
 facts-spec =
     tie.close
-    (tie.spec
-    (λ c κs. search needs)
-    (λ c κs. search needs)
-    (λ c. search needs)
-    (λ c. search needs)
-    (λ c. search needs)
-    (λ c. search needs)
-    (λ c. search needs)
-    quota-requires
-    generation-requires
-    hits-requires
-    misses-requires
-    table-capacity-requires
-    used-requires
-    returns)
+    (tie.spec (λ c κs. search needs) (λ c κs. search needs) (λ c. search needs) (λ c. search needs) (λ c. search needs) (λ c. search needs)
+    (λ c. search needs) quota-requires generation-requires hits-requires misses-requires table-capacity-requires used-requires returns)

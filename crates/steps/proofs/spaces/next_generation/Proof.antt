@@ -2,7 +2,7 @@
 use borrow.Author.Needs.{needs}
 use Rattle.space.specs.Change.{nextGeneration}
 use Rattle.steps.specs.Steps.{nextStep}
-use Rattle.steps.proofs.Lending.{lent-space, lent-in-range, space-back}
+use Rattle.steps.proofs.Lending.{lent-in-range, space-back}
 use Rattle.steps.proofs.spaces.next_generation.Statement.{statement}
 use Rattle.steps.proofs.spaces.next_generation.Tie as tie
 
