@@ -28,7 +28,10 @@ pub fn insert_new(
     value: u64,
 ) -> Reply
     requires { ⌜ Ready d (now mem) × (s < d .spaces) ⌝ }
-    ensures { λ r. ⌜ record { reply = r; memory = now (mem .exit) } ≡ inserting d s (newEntry (token .0) object (rights .0)) value (now (mem .entry)) ⌝ }
+    ensures { λ r. ⌜
+        record { reply = r; memory = now (mem .exit) }
+        ≡ inserting d s (newEntry (token .0) object (rights .0)) value (now (mem .entry))
+        ⌝ }
 {
     let entry = CapabilityEntry {
         capability: token,

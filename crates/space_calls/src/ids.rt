@@ -35,7 +35,10 @@ pub fn alloc_cap_id(mem: &mut [u64]) -> Reply
 // A token of the id that was taken and the space's generation, inserted.
 fn create_with(mem: &mut [u64], d: Numbers, s: usize, rights: Rights, object: u64, id: u64) -> Reply
     requires { ⌜ Ready d (now mem) × (s < d .spaces) ⌝ }
-    ensures { λ r. ⌜ record { reply = r; memory = now (mem .exit) } ≡ createTaken d s (rights .0) object (now (mem .entry)) (Taken.Id id) ⌝ }
+    ensures { λ r. ⌜
+        record { reply = r; memory = now (mem .exit) }
+        ≡ createTaken d s (rights .0) object (now (mem .entry)) (Taken.Id id)
+        ⌝ }
 {
     let generation = spaces::facts(mem, d, s).generation;
     match CapabilityToken::from_id_and_generation(id, generation) {

@@ -39,17 +39,17 @@ use Rattle.token.specs.declared.capability.Made.the-variants.{Token, Refused}
 use Rattle.world.specs.Numbers.{numbersOf}
 use Rattle.world.specs.Sound.{Sound}
 use Rattle.world.specs.declared.Numbers.{Numbers}
 use Rattle.space_calls.specs.Calls.{lookupOut, lookupEntryOut, checkRightsOut, insertCallOut, removeOut, incrementOut, clearOut, revokeAllOut, copyOut, allocOut, createMade, createTaken, createOut, revokeMade, revokeOut}
 use Rattle.steps.specs.Replies.{Left}
 use Rattle.space_calls.specs.Replies.{wholeEntry, entryReply}
 use Rattle.space_calls.specs.declared.EntryReply.{EntryReply}
 use Rattle.steps.specs.declared.Reply.{Reply}
-use Rattle.space_calls.proofs.laws.Elsewhere.{clear-only, revoke-all-only, copy-only}
+use Rattle.space_laws.proofs.laws.Elsewhere.{clear-only, revoke-all-only, copy-only}
 use Rattle.steps.proofs.laws.Entered.{world-by-cases, space-by-cases, space-called, done-made}
 use Rattle.steps.proofs.laws.OnlyIds.{take-step}
 use Rattle.steps.proofs.laws.OnlySpace.{OnlySpace, Step, lookup-step, next-step, insert-step, remove-step}
-use Rattle.space_calls.proofs.laws.Sound.{clear-keeps, revoke-all-keeps, copy-keeps}
-use Rattle.space_calls.proofs.laws.Unchanged.{zero-is-done}
+use Rattle.space_laws.proofs.laws.Sound.{clear-keeps, revoke-all-keeps, copy-keeps}
+use Rattle.space_laws.proofs.laws.Unchanged.{zero-is-done}
 
 -- Space s of a sound memory has the entry x under the token.
 pub record Holding (mem : List ℕ) (s token : ℕ) (x : CapabilityEntry) : Type 0 where

@@ -1,0 +1,2 @@
+-- What is promised of the calls of a space.
+pub mod laws

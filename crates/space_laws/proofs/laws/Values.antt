@@ -1,0 +1,202 @@
+-- A refusal's value is 0: where the answer of a call of a space is not 0, a reply has the value 0, a reply with an entry no entry, and the
+-- statistics are zeros. What is added, the visits of a search that found nothing, is answered all the same.
+use mathlib.Core.Bool.{not}
+use mathlib.Core.List.{List}
+use mathlib.Core.Logic.{_≢_}
+use mathlib.Core.Path.{_≡_, refl}
+use Prim.Native.Nat.{ℕ, _^_}
+use lib.Dec.{leb, ltb}
+use Rattle.answers.specs.declared.Answer.{Answer}
+use Rattle.answers.specs.declared.Answer.the-variants.{Done, BadSpace, BadWorld}
+use Rattle.space.specs.Change.{InsertOut, insertOut}
+use Rattle.space.specs.Lookup.{lookedUp, gotEntry}
+use Rattle.space.specs.Words.{generationOf, tableOf, slotWords}
+use Rattle.space.proofs.laws.Insert.{insert-by-cases}
+use Rattle.steps.specs.Enter.{onSpace}
+use Rattle.steps.specs.Replies.{Left, done, refuse}
+use Rattle.steps.specs.Steps.{spaceOf, takenId, takeStep, newEntry}
+use Rattle.steps.specs.declared.Reply.{Reply}
+use Rattle.steps.specs.declared.Taken.{Taken}
+use Rattle.steps.specs.declared.Taken.the-variants.{Id, Exhausted}
+use Rattle.steps.proofs.laws.Cases.{when-by-cases}
+use Rattle.steps.proofs.laws.Entered.{world-by-cases, space-by-cases}
+use Rattle.table.specs.Copy.{nthOf}
+use Rattle.table.specs.Insert.{liveEntries}
+use Rattle.table.specs.declared.CapabilityEntry.{CapabilityEntry}
+use Rattle.table.specs.declared.Got.{Got}
+use Rattle.table.specs.declared.Got.the-variants.{Entry, Nothing}
+use Rattle.table.specs.declared.Nth.{Nth}
+use Rattle.table.specs.declared.Nth.the-variants as nth
+use Rattle.token.specs.Token.{made}
+use Rattle.token.specs.declared.capability.Made.{Made}
+use Rattle.token.specs.declared.capability.Made.the-variants.{Token, Refused}
+use Rattle.world.specs.Numbers.{numbersOf}
+use Rattle.world.specs.declared.Numbers.{Numbers}
+use Rattle.space_calls.specs.Calls.{usedOut, quotaOut, capacityOut, generationOut, statsOut, lookupOut, lookupEntryOut, checkRightsOut, getEntryOut, nthEntryOut, insertCallOut, removeOut, incrementOut, clearOut, revokeAllOut, copyOut, takenReply, allocOut, createMade, createTaken, createOut, revokeMade, revokeOut}
+use Rattle.space_calls.specs.Replies.{foundReply, heldReply, noEntry, entryReply, nthReply, noStats, insertReply}
+use Rattle.space_calls.specs.declared.EntryReply.{EntryReply}
+use Rattle.space_calls.specs.declared.StatsReply.{StatsReply}
+
+-- ---- the three kinds of reply
+
+abbrev pub NoValue : Reply → Type 0
+NoValue r = r .answer ≢ Done → r .value ≡ 0
+
+abbrev pub NoEntry : EntryReply → Type 0
+NoEntry r = r .answer ≢ Done → r ≡ noEntry (r .answer) (r .visits)
+
+abbrev pub NoStats : StatsReply → Type 0
+NoStats r = r .answer ≢ Done → r ≡ noStats (r .answer)
+
+-- What holds of every refusal, and of the call where it is made, holds of the call.
+refused-or-made :
+    {A : Type 0} (P : A → Type 0) (refusing : Answer → A) (mem : List ℕ) (call : Numbers → A) (s : ℕ) → ((a : Answer) → P (refusing a))
+    → P (call (numbersOf mem)) → P (onSpace refusing mem s call)
+refused-or-made P refusing mem call s none own =
+    space-by-cases P refusing mem call (λ bad. none BadWorld) s (λ sound far. none BadSpace) (λ sound there. own)
+
+-- ---- the shapes of a reply
+
+done-none : (value : ℕ) → NoValue (done value)
+done-none value not-0 = absurd (not-0 refl)
+
+found-none : (value : CapabilityEntry → ℕ) (got : Got) (visits : ℕ) → NoValue (foundReply value got visits)
+found-none value (Entry e) visits not-0 = absurd (not-0 refl)
+found-none value Nothing visits not-0 = refl
+
+held-none : (required : ℕ) (got : Got) (visits : ℕ) → NoValue (heldReply required got visits)
+held-none required (Entry e) visits not-0 = absurd (not-0 refl)
+held-none required Nothing visits not-0 = absurd (not-0 refl)
+
+entry-none : (got : Got) (visits : ℕ) → NoEntry (entryReply got visits)
+entry-none (Entry e) visits not-0 = absurd (not-0 refl)
+entry-none Nothing visits not-0 = refl
+
+nth-none : (n : Nth) → NoEntry (nthReply n)
+nth-none (nth.Entry e) not-0 = absurd (not-0 refl)
+nth-none nth.Past not-0 = refl
+
+insert-none : (value : ℕ) (sp : List ℕ) (e : CapabilityEntry) → NoValue (insertReply value (insertOut sp e))
+insert-none value sp e =
+    insert-by-cases sp e (λ (o : InsertOut). NoValue (insertReply value o)) (λ over not-0. refl) (λ i under there not-0. refl)
+    (λ a not-0. absurd (not-0 refl))
+
+taken-none : (t : Taken) → NoValue (takenReply t)
+taken-none (Id id) not-0 = absurd (not-0 refl)
+taken-none Exhausted not-0 = refl
+
+-- ---- call by call
+
+abbrev Valueless : Left Reply → Type 0
+Valueless out = NoValue (out .reply)
+
+module _ (mem : List ℕ) (s : ℕ) where
+  abbrev d : Numbers
+  d = numbersOf mem
+
+  abbrev sp : List ℕ
+  sp = spaceOf d s mem
+
+  pub used-value : NoValue (usedOut mem s)
+  unfolding usedOut
+  used-value = refused-or-made NoValue _ mem _ s (λ a not-0. refl) (done-none _)
+
+  pub quota-value : NoValue (quotaOut mem s)
+  unfolding quotaOut
+  quota-value = refused-or-made NoValue _ mem _ s (λ a not-0. refl) (done-none _)
+
+  pub capacity-value : NoValue (capacityOut mem s)
+  unfolding capacityOut
+  capacity-value = refused-or-made NoValue _ mem _ s (λ a not-0. refl) (done-none _)
+
+  pub generation-value : NoValue (generationOut mem s)
+  unfolding generationOut
+  generation-value = refused-or-made NoValue _ mem _ s (λ a not-0. refl) (done-none _)
+
+  pub stats-value : NoStats (statsOut mem s)
+  unfolding statsOut
+  stats-value = refused-or-made NoStats _ mem _ s (λ a not-0. refl) (λ not-0. absurd (not-0 refl))
+
+  pub lookup-value : (token : ℕ) → NoValue (lookupOut mem s token .reply)
+  unfolding lookupOut
+  lookup-value token =
+      refused-or-made Valueless _ mem _ s (λ a not-0. refl)
+      (found-none (λ e. e .rights .0) (lookedUp sp token .got) (lookedUp sp token .visits))
+
+  pub lookup-entry-value : (token : ℕ) → NoEntry (lookupEntryOut mem s token .reply)
+  unfolding lookupEntryOut
+  lookup-entry-value token =
+      refused-or-made (λ (out : Left EntryReply). NoEntry (out .reply)) _ mem _ s (λ a not-0. refl)
+      (entry-none (lookedUp sp token .got) (lookedUp sp token .visits))
+
+  pub check-rights-value : (token required : ℕ) → NoValue (checkRightsOut mem s token required .reply)
+  unfolding checkRightsOut
+  check-rights-value token required =
+      refused-or-made Valueless _ mem _ s (λ a not-0. refl) (held-none required (lookedUp sp token .got) (lookedUp sp token .visits))
+
+  pub get-entry-value : (id : ℕ) → NoEntry (getEntryOut mem s id)
+  unfolding getEntryOut
+  get-entry-value id =
+      refused-or-made NoEntry _ mem _ s (λ a not-0. refl)
+      (when-by-cases NoEntry _ _ (leb (2 ^ 48) id) (λ over not-0. refl) (λ fits. entry-none (gotEntry sp id .got) (gotEntry sp id .visits)))
+
+  pub nth-entry-value : (n : ℕ) → NoEntry (nthEntryOut mem s n)
+  unfolding nthEntryOut
+  nth-entry-value n =
+      refused-or-made NoEntry _ mem _ s (λ a not-0. refl) (nth-none (nthOf (liveEntries (slotWords sp) 0 (tableOf sp .slots)) n))
+
+  pub insert-value : (token object rights : ℕ) → NoValue (insertCallOut mem s token object rights .reply)
+  unfolding insertCallOut
+  insert-value token object rights =
+      refused-or-made Valueless _ mem _ s (λ a not-0. refl) (insert-none 0 sp (newEntry token object rights))
+
+  pub remove-value : (token : ℕ) → NoValue (removeOut mem s token .reply)
+  unfolding removeOut
+  remove-value token =
+      refused-or-made Valueless _ mem _ s (λ a not-0. refl)
+      (found-none (λ e. e .object) (lookedUp sp token .got) (lookedUp sp token .visits))
+
+  pub increment-value : NoValue (incrementOut mem s .reply)
+  unfolding incrementOut
+  increment-value = refused-or-made Valueless _ mem _ s (λ a not-0. refl) (done-none 0)
+
+  pub clear-value : NoValue (clearOut mem s .reply)
+  unfolding clearOut
+  clear-value = refused-or-made Valueless _ mem _ s (λ a not-0. refl) (done-none 0)
+
+  pub revoke-all-value : NoValue (revokeAllOut mem s .reply)
+  unfolding revokeAllOut
+  revoke-all-value = refused-or-made Valueless _ mem _ s (λ a not-0. refl) (done-none 0)
+
+  pub copy-value : (source : ℕ) → NoValue (copyOut mem s source .reply)
+  unfolding copyOut
+  copy-value source =
+      refused-or-made Valueless _ mem _ s (λ a not-0. refl)
+      (when-by-cases Valueless _ _ (not (ltb source (d .spaces))) (λ far not-0. refl) (λ there not-0. absurd (not-0 refl)))
+
+  pub create-value : (rights object : ℕ) → NoValue (createOut mem s rights object .reply)
+  unfolding createOut
+  create-value rights object = refused-or-made Valueless _ mem _ s (λ a not-0. refl) (taken (takenId d mem))
+    where
+      after : List ℕ
+      after = takeStep d mem
+
+      tokened : (id : ℕ) (m : Made) → Valueless (createMade d s rights object id after m)
+      tokened id (Token t) = insert-none id (spaceOf d s after) (newEntry (t .0) object rights)
+      tokened id (Refused a) = λ not-0. refl
+
+      taken : (t : Taken) → Valueless (createTaken d s rights object after t)
+      taken (Id id) = tokened id (made id (generationOf (spaceOf d s after)) 0 0)
+      taken Exhausted = λ not-0. refl
+
+  pub revoke-value : (id : ℕ) → NoValue (revokeOut mem s id .reply)
+  unfolding revokeOut
+  revoke-value id = refused-or-made Valueless _ mem _ s (λ a not-0. refl) (go (made id (generationOf sp) 0 0))
+    where
+      go : (m : Made) → Valueless (revokeMade d s mem m)
+      go (Token t) = found-none (λ e. 0) (lookedUp sp (t .0) .got) (lookedUp sp (t .0) .visits)
+      go (Refused a) = λ not-0. refl
+
+pub alloc-value : (mem : List ℕ) → NoValue (allocOut mem .reply)
+unfolding allocOut
+alloc-value mem = world-by-cases Valueless (refuse mem) mem _ (λ bad not-0. refl) (λ sound. taken-none (takenId (numbersOf mem) mem))
