@@ -14,7 +14,7 @@ use Rattle.space.specs.Change.{insertOut}
 use Rattle.steps.proofs.laws.ReadyKept.{Stays, Leaves, register-leaves}
 use Rattle.steps.specs.Ready.{Ready}
 use Rattle.steps.specs.Replies.{Left, replied, refuse}
-use Rattle.steps.specs.Steps.{spaceOf, newEntry, insertStep, registerStep, unregisterStep, recycleStep, countStep}
+use Rattle.steps.specs.Steps.{spaceOf, newEntry, insertStep, registerStep, unregisterStep, recycleStep, addStep}
 use Rattle.steps.specs.declared.Reply.{Reply}
 use Rattle.world.specs.Numbers.{registeredOf, recycledOf}
 use Rattle.world.specs.declared.Numbers.{Numbers}
@@ -47,7 +47,7 @@ module _ (d : Numbers) (s id token object rights i : ℕ) (mem mid : List ℕ) (
     (number : ℕ) (numbered : number ≡ numberOf answer)
   where
     pub admits :
-        (moved : ℕ) (after : List ℕ) → moved ≡ insertOut (spaceOf d s mem) (newEntry token object rights) .moved → after ≡ countStep i mid
+        (moved : ℕ) (after : List ℕ) → moved ≡ insertOut (spaceOf d s mem) (newEntry token object rights) .moved → after ≡ addStep i 1 mid
         → number ≡ 0 → record { reply = replied Done token moved; memory = after } ≡ admitted d s id token object rights i mem
     unfolding admitted
     admits moved after moves counted zero =

@@ -2,4 +2,3 @@
 pub mod Validity
 pub mod Admitting
 pub mod Offering
-pub mod laws

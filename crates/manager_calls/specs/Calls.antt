@@ -15,13 +15,13 @@ use Rattle.space.specs.Ids.{entryIds}
 use Rattle.space.specs.Lookup.{lookedUp}
 use Rattle.steps.specs.Enter.{onWorld, onSpace}
 use Rattle.steps.specs.Replies.{Left, Listed, replied, done, refusal, refuse}
-use Rattle.steps.specs.Steps.{spaceOf, lookupStep, takenId, takeStep, placeIn, unregisterStep, recycleStep, childrenOf, countStep}
+use Rattle.steps.specs.Steps.{spaceOf, lookupStep, takenId, takeStep, placeIn, unregisterStep, recycleStep, childrenOf, addStep}
 use Rattle.steps.specs.declared.Reply.{Reply}
 use Rattle.table.specs.declared.Got.{Got}
 use Rattle.table.specs.declared.Got.the-variants.{Entry, Nothing}
 use Rattle.token.specs.Rights.{holds}
 use Rattle.token.specs.Token.{idOf}
-use Rattle.world.specs.Numbers.{registeredOf, recycledOf}
+use Rattle.world.specs.Numbers.{registeredOf, recycledOf, deletedWord}
 use Rattle.world.specs.Regions.{registry, view}
 use Rattle.world.specs.declared.Numbers.{Numbers}
 use Rattle.manager_calls.specs.Delegation.{created, current, granting}
@@ -54,7 +54,7 @@ deleteOut mem token =
     let k = placeIn d mem (idOf token) in
     when (not (ltb k (registeredOf mem))) (refuse mem NotFound)
     (when (ltb (d .places) (recycledOf mem)) (refuse mem RecycleFull)
-    (record { reply = done 0; memory = countStep 10 (recycleStep d (idOf token) (unregisterStep d k mem)) })))
+    (record { reply = done 0; memory = addStep deletedWord 1 (recycleStep d (idOf token) (unregisterStep d k mem)) })))
 
 -- ---- check
 

@@ -11,7 +11,7 @@ use Rattle.registry.specs.Words.{revoked, childOf}
 use Rattle.space.specs.Change.{insertOut}
 use Rattle.space.specs.Lookup.{lookedUp}
 use Rattle.steps.specs.Replies.{Left, replied, done, refuse}
-use Rattle.steps.specs.Steps.{spaceOf, lookupStep, newEntry, insertStep, takenId, takeStep, placeIn, objects, registerStep, listStep, unregisterStep, recycleStep, collectStep, childrenOf, countStep}
+use Rattle.steps.specs.Steps.{spaceOf, lookupStep, newEntry, insertStep, takenId, takeStep, placeIn, objects, registerStep, listStep, unregisterStep, recycleStep, collectStep, childrenOf, addStep}
 use Rattle.steps.specs.declared.Reply.{Reply}
 use Rattle.steps.specs.declared.Taken.{Taken}
 use Rattle.steps.specs.declared.Taken.the-variants.{Id, Exhausted}
@@ -19,7 +19,7 @@ use Rattle.table.specs.declared.Got.{Got}
 use Rattle.table.specs.declared.Got.the-variants.{Entry, Nothing}
 use Rattle.token.specs.Rights.{holds, common, toFlags}
 use Rattle.token.specs.Token.{packed, idOf, generationOf, typeOf}
-use Rattle.world.specs.Numbers.{registeredOf}
+use Rattle.world.specs.Numbers.{registeredOf, createdWord, delegatedWord}
 use Rattle.world.specs.Sound.{ids, states, links}
 use Rattle.world.specs.declared.Numbers.{Numbers}
 
@@ -37,7 +37,7 @@ admitted d s id token object rights i mem =
     let o = insertOut (spaceOf d s mem) (newEntry token object rights) in
     let after = insertStep d s (newEntry token object rights) mem in
     pick (eqb (numberOf (o .answer)) 0)
-    (record { reply = replied Done token (o .moved); memory = countStep i after })
+    (record { reply = replied Done token (o .moved); memory = addStep i 1 after })
     (refuse (recycleStep d id (unregisterStep d (registeredOf after - 1) after)) OutOfMemory)
 
 -- ---- create, once an id was asked for: 9 where none is left, 22 where R ids are registered already
@@ -46,7 +46,7 @@ abbrev pub created : Numbers → ℕ → ℕ → ℕ → ℕ → List ℕ → Ta
 created d s object cap-type rights mem Exhausted = refuse mem IdExhausted
 created d s object cap-type rights mem (Id id) =
     when (not (ltb (registeredOf mem) (d .places))) (refuse (recycleStep d id mem) RegistryFull)
-    (admitted d s id (tokenOf id cap-type rights) object rights 7 (registerStep d id object 0 mem))
+    (admitted d s id (tokenOf id cap-type rights) object rights createdWord (registerStep d id object 0 mem))
 
 -- ---- delegate: the children that there are already
 
@@ -94,7 +94,7 @@ current d mem token k = both (eqb (revoked (states d mem k)) 0) (eqb (generation
 abbrev pub derivedWith : Numbers → ℕ → ℕ → ℕ → ℕ → ℕ → List ℕ → Left Reply
 derivedWith d target token rights id p mem =
     let object = objects d mem p in
-    admitted d target id (tokenOf id (typeOf token) rights) object rights 8 (registerStep d id object (suc p) (listStep d p mem))
+    admitted d target id (tokenOf id (typeOf token) rights) object rights delegatedWord (registerStep d id object (suc p) (listStep d p mem))
 
 -- The id was taken: parent unregistered gives 1, revoked or other generation gives 3; then 22.
 abbrev pub derived : Numbers → ℕ → ℕ → ℕ → List ℕ → Taken → Left Reply

@@ -8,7 +8,7 @@ ghost use Rattle.steps.specs.Steps.{unregisterStep, recycleStep};
 ghost use Rattle.manager_calls.specs.Delegation.{tokenOf, admitted};
 use answers::Answer;
 use steps::Reply;
-use steps::registered::count;
+use steps::registered::add;
 use steps::registered::recycle;
 use steps::registered::unregister;
 use steps::replies::refusal;
@@ -43,7 +43,10 @@ pub fn give_back(mem: &mut [u64], d: Numbers, id: u64, answer: Answer) -> Reply
 // The id registered last leaves the registry and its parent's list.
 fn take_back(mem: &mut [u64], d: Numbers, id: u64) -> Reply
     requires { ⌜ Ready d (now mem) × (0 < registeredOf (now mem)) × (recycledOf (now mem) ≤ d .places) ⌝ }
-    ensures { λ r. ⌜ record { reply = r; memory = now (mem .exit) } ≡ refuse (recycleStep d id (unregisterStep d (registeredOf (now (mem .entry)) - 1) (now (mem .entry)))) Answer.OutOfMemory ⌝ }
+    ensures { λ r. ⌜
+        record { reply = r; memory = now (mem .exit) }
+        ≡ refuse (recycleStep d id (unregisterStep d (registeredOf (now (mem .entry)) - 1) (now (mem .entry)))) Answer.OutOfMemory
+        ⌝ }
 {
     let last = mem[11] as usize - 1;
     unregister(mem, d, last);
@@ -61,7 +64,14 @@ pub fn admit(
     rights: Rights,
     i: usize,
 ) -> Reply
-    requires { ⌜ Ready d (now mem) × (s < d .spaces) × (0 < registeredOf (now mem)) × (recycledOf (now mem) ≤ d .places) × (7 ≤ i) × (i < 11) ⌝ }
+    requires { ⌜
+        Ready d (now mem)
+        × (s < d .spaces)
+        × (0 < registeredOf (now mem))
+        × (recycledOf (now mem) ≤ d .places)
+        × (7 ≤ i)
+        × (i < 11)
+        ⌝ }
     ensures { λ r. ⌜ record { reply = r; memory = now (mem .exit) } ≡ admitted d s id (token .0) object (rights .0) i (now (mem .entry)) ⌝ }
 {
     let entry = CapabilityEntry {
@@ -73,7 +83,7 @@ pub fn admit(
     let r = spaces::insert(mem, d, s, entry);
     let answer = r.answer;
     if answer.number() == 0 {
-        count(mem, i);
+        add(mem, i, 1);
         return Reply {
             answer: Answer::Done,
             value: token.0,

@@ -31,7 +31,10 @@ fn create_with(
     id: u64,
 ) -> Reply
     requires { ⌜ Ready d (now mem) × (s < d .spaces) × («cap_type» ≤ 15) × (recycledOf (now mem) ≤ d .places) ⌝ }
-    ensures { λ r. ⌜ record { reply = r; memory = now (mem .exit) } ≡ created d s object «cap_type» (rights .0) (now (mem .entry)) (Id id) ⌝ }
+    ensures { λ r. ⌜
+        record { reply = r; memory = now (mem .exit) }
+        ≡ created d s object «cap_type» (rights .0) (now (mem .entry)) (Id id)
+        ⌝ }
 {
     if d.places <= mem[11] as usize {
         return give_back(mem, d, id, Answer::RegistryFull);

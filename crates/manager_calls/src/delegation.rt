@@ -30,7 +30,10 @@ fn offer_or_derive(
     rights: Rights,
 ) -> Reply
     requires { ⌜ Ready d (now mem) × (target < d .spaces) ⌝ }
-    ensures { λ r. ⌜ record { reply = r; memory = now (mem .exit) } ≡ offering d target (token .0) (rights .0) (offered d target (token .0) (rights .0) (now (mem .entry))) ⌝ }
+    ensures { λ r. ⌜
+        record { reply = r; memory = now (mem .exit) }
+        ≡ offering d target (token .0) (rights .0) (offered d target (token .0) (rights .0) (now (mem .entry)))
+        ⌝ }
 {
     match find_child(mem, d, target, token, rights) {
         Offer::Held(child) => done(child.0),
@@ -48,7 +51,11 @@ fn delegate_from(
     rights: Rights,
 ) -> Reply
     requires { ⌜ Ready d (now mem) × (source < d .spaces) × (target < d .spaces) ⌝ }
-    ensures { λ r. ⌜ record { reply = r; memory = now (mem .exit) } ≡ granting d target (token .0) (rights .0) (lookupStep d source (token .0) (now (mem .entry))) (lookedUp (spaceOf d source (now (mem .entry))) (token .0) .got) ⌝ }
+    ensures { λ r. ⌜
+        record { reply = r; memory = now (mem .exit) }
+        ≡ granting d target (token .0) (rights .0) (lookupStep d source (token .0) (now (mem .entry)))
+        (lookedUp (spaceOf d source (now (mem .entry))) (token .0) .got)
+        ⌝ }
 {
     let l = spaces::lookup(mem, d, source, token);
     let got = l.got;
@@ -72,7 +79,10 @@ pub fn delegate(
     target: usize,
     rights: Rights,
 ) -> Reply
-    ensures { λ r. ⌜ record { reply = r; memory = now (mem .exit) } ≡ delegateOut (now (mem .entry)) (token .0) source target (rights .0) ⌝ }
+    ensures { λ r. ⌜
+        record { reply = r; memory = now (mem .exit) }
+        ≡ delegateOut (now (mem .entry)) (token .0) source target (rights .0)
+        ⌝ }
 {
     match enter_space(mem, source) {
         Entered::Refused(answer) => refusal(answer),

@@ -2,14 +2,14 @@
 ghost use mathlib.Core.Path.{_≡_};
 ghost use Prim.Native.Nat.{_<_, _≤_};
 ghost use Rattle.steps.specs.Ready.{Ready};
-ghost use Rattle.steps.specs.Steps.{unregisterStep, recycleStep, countStep};
+ghost use Rattle.steps.specs.Steps.{unregisterStep, recycleStep, addStep};
 ghost use Rattle.world.specs.Numbers.{registeredOf, recycledOf};
 ghost use Rattle.manager_calls.specs.Calls.{deleteOut};
 use answers::Answer;
 use steps::Entered;
 use steps::Reply;
 use steps::enter::enter_world;
-use steps::registered::count;
+use steps::registered::add;
 use steps::registered::place_of;
 use steps::registered::recycle;
 use steps::registered::unregister;
@@ -21,11 +21,11 @@ use world::Numbers;
 // The id of place k leaves and is recycled; the deletion is counted.
 fn delete_at(mem: &mut [u64], d: Numbers, k: usize, id: u64)
     requires { ⌜ Ready d (now mem) × (k < registeredOf (now mem)) × (recycledOf (now mem) ≤ d .places) ⌝ }
-    ensures { λ _. ⌜ now (mem .exit) ≡ countStep 10 (recycleStep d id (unregisterStep d k (now (mem .entry)))) ⌝ }
+    ensures { λ _. ⌜ now (mem .exit) ≡ addStep 10 1 (recycleStep d id (unregisterStep d k (now (mem .entry)))) ⌝ }
 {
     unregister(mem, d, k);
     recycle(mem, d, id);
-    count(mem, 10);
+    add(mem, 10, 1);
 }
 
 pub fn delete(mem: &mut [u64], token: CapabilityToken) -> Reply

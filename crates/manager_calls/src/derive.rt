@@ -46,8 +46,17 @@ fn derive_with(
     id: u64,
     p: usize,
 ) -> Reply
-    requires { ⌜ Ready d (now mem) × (target < d .spaces) × (recycledOf (now mem) ≤ d .places) × (p < registeredOf (now mem)) × (registeredOf (now mem) < d .places) ⌝ }
-    ensures { λ r. ⌜ record { reply = r; memory = now (mem .exit) } ≡ derivedWith d target (token .0) (rights .0) id p (now (mem .entry)) ⌝ }
+    requires { ⌜
+        Ready d (now mem)
+        × (target < d .spaces)
+        × (recycledOf (now mem) ≤ d .places)
+        × (p < registeredOf (now mem))
+        × (registeredOf (now mem) < d .places)
+        ⌝ }
+    ensures { λ r. ⌜
+        record { reply = r; memory = now (mem .exit) }
+        ≡ derivedWith d target (token .0) (rights .0) id p (now (mem .entry))
+        ⌝ }
 {
     let object = object_at(mem, d, p);
     give_list(mem, d, p);

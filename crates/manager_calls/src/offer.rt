@@ -59,7 +59,10 @@ fn offer_at(
     k: usize,
 ) -> Offer
     requires { ⌜ Ready d (now mem) × (target < d .spaces) × (p ≤ d .places) × (k < d .places) ⌝ }
-    ensures { λ r. ⌜ (r ≡ offerOf (offeredFrom d target p (typeOf (token .0)) (rights .0) k 1 (now (mem .entry)))) × (now (mem .exit) ≡ offeredFrom d target p (typeOf (token .0)) (rights .0) k 1 (now (mem .entry)) .memory) ⌝ }
+    ensures { λ r. ⌜
+        (r ≡ offerOf (offeredFrom d target p (typeOf (token .0)) (rights .0) k 1 (now (mem .entry))))
+        × (now (mem .exit) ≡ offeredFrom d target p (typeOf (token .0)) (rights .0) k 1 (now (mem .entry)) .memory)
+        ⌝ }
 {
     if !is_open_child(mem, d, p, k) {
         return Offer::Absent;
@@ -80,7 +83,10 @@ pub fn find_child(
     rights: Rights,
 ) -> Offer
     requires { ⌜ Ready d (now mem) × (target < d .spaces) ⌝ }
-    ensures { λ r. ⌜ (r ≡ offerOf (offered d target (token .0) (rights .0) (now (mem .entry)))) × (now (mem .exit) ≡ offered d target (token .0) (rights .0) (now (mem .entry)) .memory) ⌝ }
+    ensures { λ r. ⌜
+        (r ≡ offerOf (offered d target (token .0) (rights .0) (now (mem .entry))))
+        × (now (mem .exit) ≡ offered d target (token .0) (rights .0) (now (mem .entry)) .memory)
+        ⌝ }
 {
     let n = mem[11] as usize;
     let p = place_of(mem, d, token.id());

@@ -18,7 +18,7 @@ returns : tie.Need-returns
 returns c =
     let tested = c .before .before .before .before in
     let put = tested .before .before .before .before .insert .ensures in
-    admits _ _ _ _ _ _ _ _ _ (put .0) _ (put .1 .0) _ (tested .before .number .ensures) _ _ (put .1 .1) (c .before .before .count .ensures) (tested .if1 .taken)
+    admits _ _ _ _ _ _ _ _ _ (put .0) _ (put .1 .0) _ (tested .before .number .ensures) _ _ (put .1 .1) (c .before .before .add .ensures) (tested .if1 .taken)
 
 returns-2 : tie.Need-returns-2
 returns-2 c =

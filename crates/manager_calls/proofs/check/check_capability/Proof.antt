@@ -58,19 +58,5 @@ returns-4 c =
 pub check-capability-spec : {M : Type 1} → statement M
 check-capability-spec =
     tie.close
-    (tie.spec
-    (λ c κs. search needs)
-    (λ c. search needs)
-    (λ c κs. search needs)
-    (λ c. search needs)
-    lookup-requires
-    (λ c κs. search needs)
-    (λ c. search needs)
-    returns
-    valid-in-requires
-    (λ c. search needs)
-    returns-2
-    (λ c. search needs)
-    returns-3
-    (λ c. search needs)
-    returns-4)
+    (tie.spec (λ c κs. search needs) (λ c. search needs) (λ c κs. search needs) (λ c. search needs) lookup-requires (λ c κs. search needs)
+    (λ c. search needs) returns valid-in-requires (λ c. search needs) returns-2 (λ c. search needs) returns-3 (λ c. search needs) returns-4)

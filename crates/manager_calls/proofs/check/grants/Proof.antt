@@ -16,9 +16,4 @@ returns-2 c = sym (ap (grants (c .before .before .args .required .0)) (c .enum-t
 pub grants-spec : {M : Type 1} → statement M
 grants-spec =
     tie.close
-    (tie.spec
-    (λ c. search needs)
-    (λ c κs. search needs)
-    (λ c. search needs)
-    returns
-    returns-2)
+    (tie.spec (λ c. search needs) (λ c κs. search needs) (λ c. search needs) returns returns-2)

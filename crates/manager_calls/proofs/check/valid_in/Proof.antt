@@ -28,10 +28,4 @@ returns-2 c =
 pub valid-in-spec : {M : Type 1} → statement M
 valid-in-spec =
     tie.close
-    (tie.spec
-    (λ c κs. search needs)
-    (λ c κs. search needs)
-    read
-    is-current-requires
-    returns
-    returns-2)
+    (tie.spec (λ c κs. search needs) (λ c κs. search needs) read is-current-requires returns returns-2)

@@ -67,18 +67,6 @@ returns-3 c =
 pub delegate-from-spec : {M : Type 1} → statement M
 delegate-from-spec =
     tie.close
-    (tie.spec
-    (λ c κs. search needs)
-    (λ c. search needs)
-    (λ c κs. search needs)
-    (λ c. search needs)
-    (λ c κs. search needs)
-    (λ c κs. search needs)
-    (λ c. search needs)
-    returns
-    (λ c κs. search needs)
-    offer-or-derive-requires
-    (λ c. search needs)
-    returns-2
-    (λ c. search needs)
-    returns-3)
+    (tie.spec (λ c κs. search needs) (λ c. search needs) (λ c κs. search needs) (λ c. search needs) (λ c κs. search needs)
+    (λ c κs. search needs) (λ c. search needs) returns (λ c κs. search needs) offer-or-derive-requires (λ c. search needs) returns-2
+    (λ c. search needs) returns-3)

@@ -29,13 +29,5 @@ returns-2 c =
 pub offer-or-derive-spec : {M : Type 1} → statement M
 offer-or-derive-spec =
     tie.close
-    (tie.spec
-    (λ c κs. search needs)
-    (λ c. search needs)
-    (λ c κs. search needs)
-    (λ c. search needs)
-    with-room-requires
-    (λ c. search needs)
-    returns
-    (λ c. search needs)
-    returns-2)
+    (tie.spec (λ c κs. search needs) (λ c. search needs) (λ c κs. search needs) (λ c. search needs) with-room-requires (λ c. search needs)
+    returns (λ c. search needs) returns-2)

@@ -13,7 +13,7 @@ use Rattle.steps.proofs.Entering.{world-refusal, world-call, world-ready}
 use Rattle.steps.proofs.Leaving.{left-is}
 use Rattle.steps.specs.Enter.{enteredWorld}
 use Rattle.steps.specs.Replies.{done, refuse}
-use Rattle.steps.specs.Steps.{placeIn, unregisterStep, recycleStep, countStep}
+use Rattle.steps.specs.Steps.{placeIn, unregisterStep, recycleStep, addStep}
 use Rattle.steps.specs.declared.Entered.{Entered}
 use Rattle.steps.specs.declared.Entered.the-variants.{Good}
 use Rattle.token.specs.Token.{idOf}
@@ -44,7 +44,7 @@ module _ (mem : List ℕ) (r : Entered) (seen : r ≡ enteredWorld mem) (d : Num
       no-room full = world-call mem r seen d good _ _ ∙ when-no _ _ _ registered ∙ when-yes _ _ _ (lt-ltb _ _ full)
 
       deleted : recycledOf mem ≤ d .places → (id′ : ℕ) → id′ ≡ idOf token
-          → deleteOut mem token ≡ record { reply = done 0; memory = countStep 10 (recycleStep d id′ (unregisterStep d k mem)) }
+          → deleteOut mem token ≡ record { reply = done 0; memory = addStep 10 1 (recycleStep d id′ (unregisterStep d k mem)) }
       unfolding deleteOut
       deleted room id′ same =
           rw (same, ← place) (world-call mem r seen d good _ _ ∙ when-no _ _ _ registered ∙ when-no _ _ _ (le-ltb _ _ room))
@@ -108,25 +108,6 @@ returns-4 c =
 pub delete-spec : {M : Type 1} → statement M
 delete-spec =
     tie.close
-    (tie.spec
-    (λ c κs. search needs)
-    (λ c. search needs)
-    (λ c κs. search needs)
-    (λ c. search needs)
-    (λ c κs. search needs)
-    place-of-requires
-    slice-read-if1
-    (λ c κs. search needs)
-    (λ c. search needs)
-    returns
-    slice-read-if2
-    (λ c κs. search needs)
-    (λ c. search needs)
-    returns-2
-    (λ c κs. search needs)
-    delete-at-requires
-    (λ c κs. search needs)
-    (λ c. search needs)
-    returns-3
-    (λ c. search needs)
-    returns-4)
+    (tie.spec (λ c κs. search needs) (λ c. search needs) (λ c κs. search needs) (λ c. search needs) (λ c κs. search needs) place-of-requires
+    slice-read-if1 (λ c κs. search needs) (λ c. search needs) returns slice-read-if2 (λ c κs. search needs) (λ c. search needs) returns-2
+    (λ c κs. search needs) delete-at-requires (λ c κs. search needs) (λ c. search needs) returns-3 (λ c. search needs) returns-4)

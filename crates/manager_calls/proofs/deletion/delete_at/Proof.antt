@@ -3,7 +3,7 @@ use mathlib.Core.Path.{ap, _∙_}
 use native.Mathlib.Omega.{arith}
 use borrow.Author.Needs.{needs}
 use Rattle.steps.proofs.laws.ReadyKept.{unregister-leaves}
-use Rattle.steps.specs.Steps.{recycleStep, countStep}
+use Rattle.steps.specs.Steps.{recycleStep, addStep}
 use Rattle.manager_calls.proofs.deletion.delete_at.Statement.{statement}
 use Rattle.manager_calls.proofs.deletion.delete_at.Tie as tie
 
@@ -20,7 +20,7 @@ returns c =
     let counts = c .before .before in
     let recycles = counts .before .before .before .before in
     let leaves = recycles .before .before .before .before in
-    counts .count .ensures ∙ ap (countStep 10) (recycles .recycle .ensures ∙ ap (recycleStep _ _) (leaves .unregister .ensures))
+    counts .add .ensures ∙ ap (addStep 10 1) (recycles .recycle .ensures ∙ ap (recycleStep _ _) (leaves .unregister .ensures))
 
 pub delete-at-spec : {M : Type 1} → statement M
 delete-at-spec = tie.close (tie.spec (λ c κs. search needs) recycle-requires (λ c κs. search needs) (λ c. search needs) returns)

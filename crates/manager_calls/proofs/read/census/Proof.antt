@@ -24,12 +24,5 @@ returns-2 c =
 pub census-spec : {M : Type 1} → statement M
 census-spec =
     tie.close
-    (tie.spec
-    (λ c κs. search needs)
-    (λ c. search needs)
-    (λ c κs. search needs)
-    (λ c. search needs)
-    strays-requires
-    (λ c κs. search needs)
-    returns
-    returns-2)
+    (tie.spec (λ c κs. search needs) (λ c. search needs) (λ c κs. search needs) (λ c. search needs) strays-requires (λ c κs. search needs)
+    returns returns-2)

@@ -27,12 +27,5 @@ returns-2 c =
 pub derivation-tree-stats-spec : {M : Type 1} → statement M
 derivation-tree-stats-spec =
     tie.close
-    (tie.spec
-    (λ c κs. search needs)
-    (λ c. search needs)
-    (λ c κs. search needs)
-    (λ c. search needs)
-    parents-requires
-    edges-requires
-    returns
+    (tie.spec (λ c κs. search needs) (λ c. search needs) (λ c κs. search needs) (λ c. search needs) parents-requires edges-requires returns
     returns-2)

@@ -76,19 +76,6 @@ returns-4 c =
 pub get-children-spec : {M : Type 1} → statement M
 get-children-spec =
     tie.close
-    (tie.spec
-    (λ c κs. search needs)
-    (λ c. search needs)
-    (λ c κs. search needs)
-    (λ c. search needs)
-    (λ c κs. search needs)
-    returns
-    place-of-requires
-    child-count-requires
-    (λ c κs. search needs)
-    returns-2
-    list-children-requires
-    (λ c κs. search needs)
-    returns-3
-    (λ c. search needs)
-    returns-4)
+    (tie.spec (λ c κs. search needs) (λ c. search needs) (λ c κs. search needs) (λ c. search needs) (λ c κs. search needs) returns
+    place-of-requires child-count-requires (λ c κs. search needs) returns-2 list-children-requires (λ c κs. search needs) returns-3
+    (λ c. search needs) returns-4)

@@ -30,14 +30,5 @@ returns-2 c = sym (world-call _ _ (c .before .before .before .before .before .be
 pub stats-spec : {M : Type 1} → statement M
 stats-spec =
     tie.close
-    (tie.spec
-    (λ c κs. search needs)
-    (λ c. search needs)
-    (λ c κs. search needs)
-    (λ c. search needs)
-    word-7
-    word-9
-    word-11
-    word-13
-    returns
+    (tie.spec (λ c κs. search needs) (λ c. search needs) (λ c κs. search needs) (λ c. search needs) word-7 word-9 word-11 word-13 returns
     returns-2)

@@ -30,7 +30,7 @@ use Rattle.steps.proofs.laws.Cases.{pick-by-cases, when-by-cases, unless-below}
 use Rattle.steps.proofs.laws.Called.{Keeps, on-space}
 use Rattle.steps.proofs.laws.Kept.{Kept, kept-refl, kept-trans}
 use Rattle.steps.proofs.laws.OnlySpace.{OnlySpace, insert-step}
-use Rattle.steps.proofs.laws.RegistrySteps.{register-step, register-step-kept, list-step, list-step-kept, recycle-step-kept, collect-step, collect-step-kept, count-step-kept, recycle-after-unregister}
+use Rattle.steps.proofs.laws.RegistrySteps.{register-step, register-step-kept, list-step, list-step-kept, recycle-step-kept, collect-step, collect-step-kept, add-step-kept, recycle-after-unregister}
 use Rattle.steps.proofs.laws.SpaceSteps.{lookup-step-kept, insert-step-kept}
 use Rattle.steps.proofs.laws.TakeStep.{Free, take-step-kept, taken-free, taken-room}
 use Rattle.table.specs.declared.CapabilityEntry.{CapabilityEntry}
@@ -41,13 +41,13 @@ use Rattle.token.specs.Token.{idOf, typeOf}
 use Rattle.world.specs.Numbers.{numbersOf, registeredOf, recycledOf}
 use Rattle.world.specs.Regions.{registry, view}
 use Rattle.world.specs.Sound.{ids, states, links, SoundAt, Sound}
-use Rattle.world.specs.Views.{length-view}
+use Rattle.world.specs.Views.{registry-words}
 use Rattle.world.specs.declared.Numbers.{Numbers}
 use Rattle.manager_calls.specs.Calls.{createOut, delegateOut, deleteOut, checkOut}
 use Rattle.manager_calls.specs.Delegation.{admitted, created, openChild, heldWith, Offered, offeredFrom, offered, current, derivedWith, derived, withId, withRoom, offering, granting, tokenOf}
-use Rattle.manager_calls.proofs.laws.Ways.{delete-by-cases, check-by-cases}
-use Rattle.manager_calls.proofs.laws.SameIds.{list-ids}
-use Rattle.manager_calls.proofs.laws.SameRegistered.{take-same, same-place, same-children}
+use Rattle.manager_laws.proofs.laws.Ways.{delete-by-cases, check-by-cases}
+use Rattle.manager_laws.proofs.laws.SameIds.{list-ids}
+use Rattle.manager_laws.proofs.laws.SameRegistered.{take-same, same-place, same-children}
 
 -- An id that was taken: it is free, and there is room to give it back.
 pub record InHand (d : Numbers) (mem : List ℕ) (id : ℕ) : Type 0 where
@@ -82,7 +82,7 @@ module _ (d : Numbers) (mem : List ℕ) (id object link : ℕ) (reg : Registrati
       let n : ℕ = registeredOf mem in
       let rg : List ℕ = view d registry mem in
       let changed = register-step d mem (reg .sound) id object link (reg .room) in
-      let long : 5 * d .places + 1 ≤ length rg = omega (arith, length-view d registry mem tt (reg .sound .long-enough)) in
+      let long : 5 * d .places + 1 ≤ length rg = registry-words d mem (reg .sound .long-enough) in
       record {
         some = omega (arith, changed .new-word);
         last =
@@ -126,7 +126,7 @@ module _ (d : Numbers) (mem : List ℕ) (sound : SoundAt d mem) where
         let still : Newest d after id = inserted-newest e fits id newest in
         let k : ℕ = registeredOf after - 1 in
         pick-by-cases (λ (out : Left Reply). Kept d mem (out .memory)) _ _ (eqb (numberOf (insertOut (spaceOf d s mem) e .answer)) 0)
-        (λ accepted. kept-trans d mem after _ came (count-step-kept d after (came .sound) i low high))
+        (λ accepted. kept-trans d mem after _ came (add-step-kept d after (came .sound) i 1 (omega arith) high))
         (λ refused.
         kept-trans d mem after _ came
         (subst (λ x. Kept d after (recycleStep d x (unregisterStep d k after))) (still .last)
@@ -199,7 +199,7 @@ module _ (d : Numbers) (mem : List ℕ) (sound : SoundAt d mem) where
   rg = view d registry mem
 
   long : 5 * d .places + 1 ≤ length rg
-  long = omega (arith, length-view d registry mem tt (sound .long-enough))
+  long = registry-words d mem (sound .long-enough)
 
   -- Only a registered id has children: links name earlier places.
   pub parent-registered : (p : ℕ) → 0 < childrenOf d mem p → p < registeredOf mem
@@ -413,7 +413,7 @@ module _ (mem : List ℕ) (sound : Sound mem) where
       delete-by-cases mem token (Keeps mem) (λ bad. as-it-is) (λ sound unregistered. as-it-is) (λ sound inside full. as-it-is)
       (λ sound inside room.
       let left = deleted-kept d mem sound (idOf token) inside room in
-      kept-trans d mem _ _ left (count-step-kept d _ (left .sound) 10 (omega arith) (omega arith)))
+      kept-trans d mem _ _ left (add-step-kept d _ (left .sound) 10 1 (omega arith) (omega arith)))
 
   pub check-keeps : (token required s : ℕ) → Keeps mem (checkOut mem token required s)
   check-keeps token required s =

@@ -1,9 +1,9 @@
--- An id that was never given back is never issued again. No call but its own deletion changes that an id is spent, and no call takes a
--- spent id; so an id that create or delegate takes was not registered before. And the next id never falls.
+-- Create and delegate issue no id that is issued and not given back, so none that is registered, and what they issue is spent then. Create,
+-- delegate, check, and the delete of another id give none back; and the next id never falls. Ids.antt of history says it of every call.
 use mathlib.Core.Bool.{Bool}
 use mathlib.Core.List.{List}
 use mathlib.Core.Logic.{_≢_, _⊎_, inl, inr, ⊎-elim, by-cases}
-use mathlib.Core.Path.{_≡_, refl, sym, ap, subst, _∙_}
+use mathlib.Core.Path.{_≡_, refl, sym, ap, subst}
 use Prim.Native.Nat.{ℕ, suc, _-_, _^_, _≤_, _<_}
 use native.Mathlib.Decide.{decLt}
 use native.Mathlib.Omega.{arith}
@@ -15,7 +15,7 @@ use Rattle.steps.specs.Replies.{Left}
 use Rattle.steps.specs.Steps.{lookupStep, takeStep, placeIn, objects, unregisterStep, recycleStep}
 use Rattle.steps.specs.declared.Reply.{Reply}
 use Rattle.steps.proofs.laws.Kept.{Kept}
-use Rattle.steps.proofs.laws.RegistrySteps.{unregister-step-kept, recycle-step}
+use Rattle.steps.proofs.laws.RegistrySteps.{unregister-step-kept}
 use Rattle.steps.proofs.laws.SpaceSteps.{lookup-step-kept}
 use Rattle.steps.proofs.laws.TakeStep.{take-step-kept}
 use Rattle.token.specs.Token.{idOf, typeOf}
@@ -23,19 +23,19 @@ use Rattle.world.specs.Numbers.{numbersOf, nextOf, registeredOf, recycledOf}
 use Rattle.world.specs.Regions.{registry, view}
 use Rattle.world.specs.Sound.{SoundAt, Sound}
 use Rattle.world.specs.declared.Numbers.{Numbers}
 use Rattle.manager_calls.specs.Calls.{createOut, delegateOut, deleteOut, checkOut}
 use Rattle.manager_calls.specs.Delegation.{tokenOf}
-use Rattle.manager_calls.proofs.laws.Ways.{deleted, delete-by-cases, check-by-cases}
-use Rattle.manager_calls.proofs.laws.Created as create
-use Rattle.manager_calls.proofs.laws.Delegated as delegate
-use Rattle.manager_calls.proofs.laws.Recording.{listed, recording}
-use Rattle.manager_calls.proofs.laws.Standing.{admitted-ids}
-use Rattle.manager_calls.proofs.laws.Undone.{Undone}
-use Rattle.manager_calls.proofs.laws.Unchanged.{create-undone, delegate-undone}
-use Rattle.manager_calls.proofs.laws.Roomed.{roomed, roomed-by-cases}
-use Rattle.manager_calls.proofs.laws.SameIds.{SameIds, lookup-ids, list-ids, unregister-ids, collect-ids, count-ids}
-use Rattle.manager_calls.proofs.laws.Sound.{taken-in-hand, offered-by-lookups, parent-registered, deleted-kept, create-keeps, delegate-keeps, delete-keeps, check-keeps, token-id}
-use Rattle.manager_calls.proofs.laws.Spent.{Recycled, SpentAt, Spent, NoneFreed, spent-still, none-refl, none-trans, none-same, take-none, taken-from, taken-unspent, registered-spent, recycle-spent, back-none}
+use Rattle.manager_laws.proofs.laws.Ways.{deleted, delete-by-cases, check-by-cases}
+use Rattle.manager_laws.proofs.laws.Created as create
+use Rattle.manager_laws.proofs.laws.Delegated as delegate
+use Rattle.manager_laws.proofs.laws.Recording.{listed, recording}
+use Rattle.manager_laws.proofs.laws.Standing.{admitted-ids, created-stands, delegated-stands}
+use Rattle.manager_laws.proofs.laws.Undone.{Undone}
+use Rattle.manager_laws.proofs.laws.Unchanged.{create-undone, delegate-undone}
+use Rattle.manager_laws.proofs.laws.Roomed.{roomed, roomed-by-cases}
+use Rattle.manager_laws.proofs.laws.SameIds.{SameIds, lookup-ids, list-ids, unregister-ids, collect-ids, count-ids}
+use Rattle.manager_laws.proofs.laws.Sound.{taken-in-hand, offered-by-lookups, parent-registered, deleted-kept, create-keeps, delegate-keeps, delete-keeps, check-keeps, token-id}
+use Rattle.manager_laws.proofs.laws.Spent.{Recycled, SpentAt, Spent, NoneFreed, spent-still, none-refl, none-trans, none-same, take-none, taken-from, taken-unspent, registered-spent, recycle-spent, back-none}
 
 -- ---- create
 
@@ -228,22 +228,11 @@ module _ (d : Numbers) (mem : List ℕ) (sound : SoundAt d mem) (id : ℕ) (insi
     counted-ids : SameIds d (recycleStep d id gone) (deleted d id mem)
     counted-ids = count-ids d _ (deleted-kept d mem sound id inside room .sound) 10 (omega arith) (omega arith)
 
-    deleted-next : nextOf (deleted d id mem) ≡ nextOf mem
-    deleted-next =
-        counted-ids .same-next ∙ recycle-step d gone gone-sound id gone-room .same-word 5 (omega arith) (omega arith)
-        ∙ unregister-ids d mem sound k inside .same-next
-
     deleted-spent : (x : ℕ) → x ≢ id → SpentAt d mem x → SpentAt d (deleted d id mem) x
     deleted-spent x other spent =
         spent-still d _ _ x (none-same d _ _ counted-ids)
         (recycle-spent d gone gone-sound id gone-room x other
         (spent-still d mem gone x (none-same d mem gone (unregister-ids d mem sound k inside)) spent))
-
-pub delete-next : (mem : List ℕ) (token : ℕ) → nextOf (deleteOut mem token .memory) ≡ nextOf mem
-delete-next mem token =
-    delete-by-cases mem token (λ (out : Left Reply). nextOf (out .memory) ≡ nextOf mem) (λ bad. refl) (λ sound absent. refl)
-    (λ sound inside full. refl)
-    (λ sound inside room. deleted-next (numbersOf mem) mem sound (idOf token) inside room)
 
 module _ (mem : List ℕ) (sound : Sound mem) (x : ℕ) (spent : Spent mem x) where
   -- The numbers stay.
@@ -332,3 +321,31 @@ module _ (mem : List ℕ) (token source target rights : ℕ) where
       (token-id (t .id) (typeOf token) (delegate.shared mem token source target rights granted)
       (taken-in-hand d r sound (t .id) (t .is) .free .fits))
       (taken-unspent d r sound (t .id) x (t .is) (spent-still d mem r x (base-none mem token source target rights granted) spent))))
+
+-- ---- what was issued is spent then
+
+module _ (mem : List ℕ) (sound : Sound mem) where
+  -- The id of a place of a memory that was kept.
+  kept-spent :
+      (after : List ℕ) (id : ℕ) → Kept (numbersOf mem) mem after → placeIn (numbersOf mem) after id < registeredOf after → Spent after id
+  kept-spent after id kept inside =
+      let d : Numbers = numbersOf mem in
+      subst (λ (d : Numbers). SpentAt d after id) (sym (kept .numbers))
+      (registered-spent d after (kept .sound) id (registered-among (registeredOf after) (view d registry after) id .0 inside))
+
+  pub create-issued :
+      (s object : ℕ) (valid : Bool) (cap-type rights : ℕ) → rights < 2 ^ 32
+      → createOut mem s object valid cap-type rights .reply .answer ≡ Done
+      → Spent (createOut mem s object valid cap-type rights .memory) (idOf (createOut mem s object valid cap-type rights .reply .value))
+  create-issued s object valid cap-type rights fits done =
+      kept-spent _ _ (create-keeps mem sound s object valid cap-type rights fits)
+      (created-stands mem s object valid cap-type rights fits done .registered)
+
+  pub delegate-issued :
+      (token source target rights : ℕ) → rights < 2 ^ 32 → delegateOut mem token source target rights .reply .answer ≡ Done
+      → delegate.Returned mem token source target rights (delegateOut mem token source target rights .reply .value)
+      ⊎ Spent (delegateOut mem token source target rights .memory) (idOf (delegateOut mem token source target rights .reply .value))
+  delegate-issued token source target rights fits done =
+      ⊎-elim inl
+      (λ (g, (is, stands)). inr (kept-spent _ _ (delegate-keeps mem sound token source target rights fits) (stands .registered)))
+      (delegated-stands mem token source target rights fits done)

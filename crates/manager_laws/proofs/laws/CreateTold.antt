@@ -2,11 +2,9 @@
 -- 21, 5, 9, 22, 4 and 0 exactly in their stated cases.
 use mathlib.Core.Bool.{Bool, false}
 use mathlib.Core.List.{List}
-use mathlib.Core.Logic.{_↔_, by-cases}
-use mathlib.Core.Path.{_≡_, refl, sym, ap, subst, _∙_}
-use Prim.Native.Nat.{ℕ, _^_, _≤_, _<_}
-use native.Mathlib.Decide.{decLt}
-use native.Mathlib.Omega.{arith}
+use mathlib.Core.Logic.{_↔_}
+use mathlib.Core.Path.{_≡_, sym, ap, subst, _∙_}
+use Prim.Native.Nat.{ℕ, _≤_, _<_}
 use lib.Dec.{eqb}
 use Rattle.answers.specs.Number.{numberOf}
 use Rattle.answers.specs.declared.Answer.{Answer}
@@ -15,31 +13,13 @@ use Rattle.space.proofs.laws.Insert.{Accepts}
 use Rattle.steps.specs.Replies.{Left}
 use Rattle.steps.specs.Steps.{spaceOf, takenId}
 use Rattle.steps.specs.declared.Reply.{Reply}
-use Rattle.steps.specs.declared.Taken.the-variants.{Id, Exhausted}
-use Rattle.steps.proofs.TakingIds.{takes-recycled, takes-next, takes-none}
+use Rattle.steps.specs.declared.Taken.the-variants.{Exhausted}
 use Rattle.steps.proofs.laws.Cases.{stated}
 use Rattle.steps.proofs.laws.Told.{Told}
-use Rattle.world.specs.Numbers.{numbersOf, nextOf, registeredOf, recycledOf}
+use Rattle.world.specs.Numbers.{numbersOf, registeredOf}
 use Rattle.world.specs.Sound.{Sound}
-use Rattle.world.specs.declared.Numbers.{Numbers}
 use Rattle.manager_calls.specs.Calls.{createOut}
-use Rattle.manager_calls.proofs.laws.Created as create
-
--- No id is left exactly where none is recycled and next is 2^48.
-pub exhausted-exactly : (d : Numbers) (mem : List ℕ) → (takenId d mem ≡ Exhausted) ↔ ((recycledOf mem ≤ 0) × (2 ^ 48 ≤ nextOf mem))
-exhausted-exactly d mem = (
-  λ none.
-      by-cases (decLt 0 (recycledOf mem))
-      (λ some. absurd (left _ none (takes-recycled d mem _ _ some refl refl .1)))
-      (λ empty.
-      by-cases (decLt (nextOf mem) (2 ^ 48))
-      (λ more. absurd (left _ none (takes-next d mem (omega arith) more .1)))
-      (λ over. (omega arith, omega arith))),
-  λ (empty, over). sym (takes-none d mem empty over .1),
-)
-  where
-    left : (id : ℕ) → takenId d mem ≡ Exhausted → Id id ≡ takenId d mem → ⊥
-    left id none is = let z : _≡_ {A = ℕ} 0 1 = cc in omega arith
+use Rattle.manager_laws.proofs.laws.Created as create
 
 abbrev answerOf : Left Reply → Answer
 answerOf out = out .reply .answer

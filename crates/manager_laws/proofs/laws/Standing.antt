@@ -17,13 +17,13 @@ use Rattle.space.specs.Change.{insertOut}
 use Rattle.space.specs.Lookup.{lookedUp}
 use Rattle.space.proofs.laws.Held.{inserted-is-found}
 use Rattle.space.proofs.laws.Insert.{Accepts}
-use Rattle.steps.specs.Steps.{spaceOf, newEntry, insertStep, takeStep, registerStep, placeIn, objects, countStep}
+use Rattle.steps.specs.Steps.{spaceOf, newEntry, insertStep, takeStep, registerStep, placeIn, objects, addStep}
 use Rattle.steps.specs.Replies.{Left}
 use Rattle.steps.specs.declared.Reply.{Reply}
 use Rattle.steps.proofs.laws.OnlySpace.{Step, insert-step}
 use Rattle.steps.proofs.laws.Ready.{space-of}
 use Rattle.steps.proofs.laws.RegistryChanged.{RegistryChanged}
-use Rattle.steps.proofs.laws.RegistrySteps.{register-step, count-step, count-step-kept}
+use Rattle.steps.proofs.laws.RegistrySteps.{register-step, add-step, add-step-kept}
 use Rattle.steps.proofs.laws.SpaceSteps.{insert-step-kept}
 use Rattle.token.specs.Token.{idOf, typeOf}
 use Rattle.table.specs.declared.Got.the-variants.{Entry}
@@ -31,17 +31,17 @@ use Rattle.table.specs.declared.CapabilityEntry.{CapabilityEntry}
 use Rattle.world.specs.Numbers.{numbersOf, registeredOf}
 use Rattle.world.specs.Regions.{registry, view}
 use Rattle.world.specs.Sound.{states, links, SoundAt}
-use Rattle.world.specs.Views.{length-view}
+use Rattle.world.specs.Views.{registry-words}
 use Rattle.world.specs.declared.Numbers.{Numbers}
-use Rattle.manager_calls.proofs.laws.Admitted.{accepted-done}
+use Rattle.manager_laws.proofs.laws.Admitted.{accepted-done}
 use Rattle.manager_calls.specs.Calls.{createOut, delegateOut}
 use Rattle.manager_calls.specs.Delegation.{tokenOf}
-use Rattle.manager_calls.proofs.laws.Created as create
-use Rattle.manager_calls.proofs.laws.Delegated as delegate
-use Rattle.manager_calls.proofs.laws.Recording.{listed-count, recording}
-use Rattle.manager_calls.proofs.laws.SameIds.{SameIds, ids-trans, register-ids, insert-ids, count-ids}
-use Rattle.manager_calls.proofs.laws.SameRegistered.{take-same}
-use Rattle.manager_calls.proofs.laws.Sound.{Registration, registered-kept, taken-in-hand, token-id}
+use Rattle.manager_laws.proofs.laws.Created as create
+use Rattle.manager_laws.proofs.laws.Delegated as delegate
+use Rattle.manager_laws.proofs.laws.Recording.{listed-count, recording}
+use Rattle.manager_laws.proofs.laws.SameIds.{SameIds, ids-trans, register-ids, insert-ids, count-ids}
+use Rattle.manager_laws.proofs.laws.SameRegistered.{take-same}
+use Rattle.manager_laws.proofs.laws.Sound.{Registration, registered-kept, taken-in-hand, token-id}
 
 -- The id at place k, and the space s with its token.
 pub record Stands (d : Numbers) (s id k link : ℕ) (e : CapabilityEntry) (after : List ℕ) : Type 0 where
@@ -69,7 +69,7 @@ module _ (d : Numbers) (mem : List ℕ) (id object link : ℕ) (reg : Registrati
     with-entry = insertStep d s e with-id
 
     abbrev after : List ℕ
-    after = countStep i with-entry
+    after = addStep i 1 with-entry
 
     there : SoundAt d with-id
     there = registered-kept d mem id object link reg .sound
@@ -79,7 +79,7 @@ module _ (d : Numbers) (mem : List ℕ) (id object link : ℕ) (reg : Registrati
 
     new-place : NewPlace (d .places) n id object link (view d registry with-id)
     new-place =
-        let long : 5 * d .places + 1 ≤ length (view d registry mem) = omega (arith, length-view d registry mem tt (reg .sound .long-enough)) in
+        let long : 5 * d .places + 1 ≤ length (view d registry mem) = registry-words d mem (reg .sound .long-enough) in
         rw (register-step d mem (reg .sound) id object link (reg .room) .new-registry)
         (registered-new (d .places) n id object link (view d registry mem) (reg .room) long)
 
@@ -87,7 +87,7 @@ module _ (d : Numbers) (mem : List ℕ) (id object link : ℕ) (reg : Registrati
     step = insert-step d with-id there s valid e fits
 
     counted : RegistryChanged d (view d registry with-entry) i ((getD with-entry i 0 + 1) % 2 ^ 64) with-entry after
-    counted = count-step d with-entry inserted i low high
+    counted = add-step d with-entry (inserted .long-enough) i 1 (omega arith) high
 
     -- Of the registry with the id, only holders change then.
     only-holders : HoldersOnly (d .places) (view d registry with-id) (view d registry after)
@@ -100,7 +100,7 @@ module _ (d : Numbers) (mem : List ℕ) (id object link : ℕ) (reg : Registrati
 
     at-place : placeIn d after id ≡ n
     at-place =
-        place-is (registeredOf after) (view d registry after) id n (count-step-kept d with-entry inserted i low high .sound .ids-differ)
+        place-is (registeredOf after) (view d registry after) id n (add-step-kept d with-entry inserted i 1 (omega arith) high .sound .ids-differ)
         (omega (arith, one-more))
         (same-ids (d .places) _ _ only-holders n (reg .room) ∙ new-place .new-id)
 
@@ -108,7 +108,7 @@ module _ (d : Numbers) (mem : List ℕ) (id object link : ℕ) (reg : Registrati
     no-flags = only-holders .flags n (reg .room) ∙ ap (λ state. state % 4) (new-place .new-state)
 
     -- The next id and the recycled ones are as they were.
-    pub admitted-ids : SameIds d mem (countStep i (insertStep d s (newEntry token object rights) (registerStep d id object link mem)))
+    pub admitted-ids : SameIds d mem (addStep i 1 (insertStep d s (newEntry token object rights) (registerStep d id object link mem)))
     admitted-ids =
         ids-trans d mem with-id after (register-ids d mem (reg .sound) id object link (reg .room))
         (ids-trans d with-id with-entry after (insert-ids d with-id there s valid e fits) (count-ids d with-entry inserted i low high))
@@ -116,7 +116,7 @@ module _ (d : Numbers) (mem : List ℕ) (id object link : ℕ) (reg : Registrati
     pub admitted-stands :
         Accepts (spaceOf d s (registerStep d id object link mem)) (newEntry token object rights)
         → Stands d s id (registeredOf mem) link (newEntry token object rights)
-        (countStep i (insertStep d s (newEntry token object rights) (registerStep d id object link mem)))
+        (addStep i 1 (insertStep d s (newEntry token object rights) (registerStep d id object link mem)))
     admitted-stands accepts = record {
       place = at-place;
       registered = omega (arith, at-place, one-more);

@@ -14,8 +14,12 @@ pub mod Refused
 pub mod Spent
 pub mod Undone
 pub mod Unchanged
+pub mod Values
 pub mod Standing
 pub mod Ids
 pub mod SharedRights
+pub mod OfferedFirst
 pub mod Deleted
 pub mod Meaning
+pub mod Census
+pub mod Children

@@ -9,7 +9,7 @@ use Rattle.answers.specs.declared.Answer.{Answer}
 use Rattle.answers.specs.declared.Answer.the-variants.{Done, InsufficientRights, CapabilityRevoked, NotFound, BadSpace, RecycleFull, BadWorld}
 use Rattle.space.specs.Lookup.{lookedUp}
 use Rattle.steps.specs.Replies.{Left, replied, done, refuse}
-use Rattle.steps.specs.Steps.{spaceOf, lookupStep, placeIn, unregisterStep, recycleStep, countStep}
+use Rattle.steps.specs.Steps.{spaceOf, lookupStep, placeIn, unregisterStep, recycleStep, addStep}
 use Rattle.steps.specs.declared.Reply.{Reply}
 use Rattle.steps.proofs.laws.Cases.{when-by-cases, unless-below}
 use Rattle.steps.proofs.laws.Entered.{world-by-cases, space-by-cases}
@@ -17,14 +17,14 @@ use Rattle.token.specs.Token.{idOf}
 use Rattle.world.specs.Numbers.{numbersOf, registeredOf, recycledOf}
 use Rattle.world.specs.Sound.{Sound}
 use Rattle.world.specs.declared.Numbers.{Numbers}
 use Rattle.manager_calls.specs.Calls.{deleteOut, grants, validIn, checkOut}
-use Rattle.manager_calls.proofs.laws.SameRegistered.{lookup-same, same-valid}
+use Rattle.manager_laws.proofs.laws.SameRegistered.{lookup-same, same-valid}
 
 -- ---- delete
 
 -- The memory that a delete given 0 leaves.
 abbrev pub deleted : Numbers → ℕ → List ℕ → List ℕ
-deleted d id mem = countStep 10 (recycleStep d id (unregisterStep d (placeIn d mem id) mem))
+deleted d id mem = addStep 10 1 (recycleStep d id (unregisterStep d (placeIn d mem id) mem))
 
 module _ (mem : List ℕ) (token : ℕ) (P : Left Reply → Type 0) where
   abbrev d : Numbers

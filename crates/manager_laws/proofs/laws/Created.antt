@@ -15,7 +15,7 @@ use Rattle.base.specs.Choose.{when-yes, when-no}
 use Rattle.space.specs.Change.{insertOut}
 use Rattle.space.proofs.laws.Insert.{Accepts}
 use Rattle.steps.specs.Replies.{Left, replied, refuse}
-use Rattle.steps.specs.Steps.{spaceOf, newEntry, insertStep, takenId, takeStep, registerStep, unregisterStep, recycleStep, countStep}
+use Rattle.steps.specs.Steps.{spaceOf, newEntry, insertStep, takenId, takeStep, registerStep, unregisterStep, recycleStep, addStep}
 use Rattle.steps.specs.declared.Reply.{Reply}
 use Rattle.steps.specs.declared.Taken.{Taken}
 use Rattle.steps.specs.declared.Taken.the-variants.{Id, Exhausted}
@@ -27,11 +27,11 @@ use Rattle.table.specs.declared.CapabilityEntry.{CapabilityEntry}
 use Rattle.world.specs.Numbers.{numbersOf, registeredOf}
 use Rattle.world.specs.Sound.{Sound}
 use Rattle.world.specs.declared.Numbers.{Numbers}
 use Rattle.manager_calls.specs.Calls.{createOut}
 use Rattle.manager_calls.specs.Delegation.{tokenOf, admitted, created}
-use Rattle.manager_calls.proofs.laws.Admitted.{accepts-or-not, admitted-taken, admitted-undone}
-use Rattle.manager_calls.proofs.laws.SameRegistered.{take-same}
-use Rattle.manager_calls.proofs.laws.Sound.{Registration, taken-in-hand, parentless}
+use Rattle.manager_laws.proofs.laws.Admitted.{accepts-or-not, admitted-taken, admitted-undone}
+use Rattle.manager_laws.proofs.laws.SameRegistered.{take-same}
+use Rattle.manager_laws.proofs.laws.Sound.{Registration, taken-in-hand, parentless}
 
 module _ (mem : List ℕ) (s object : ℕ) (valid : Bool) (cap-type rights : ℕ) where
   abbrev d : Numbers
@@ -97,7 +97,7 @@ module _ (mem : List ℕ) (s object : ℕ) (valid : Bool) (cap-type rights : ℕ
   outOf (accepted t room a) =
       record {
         reply = replied Done (newToken t) (insertOut (spaceOf (numbersOf mem) s (recorded t)) (entryFor t) .moved);
-        memory = countStep 7 (inserted t);
+        memory = addStep 7 1 (inserted t);
       }
 
   -- ---- there is a way

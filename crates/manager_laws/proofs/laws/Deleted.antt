@@ -12,25 +12,25 @@ use Rattle.answers.specs.declared.Answer.the-variants.{Done}
 use Rattle.registry.specs.Holders.{placeOf}
 use Rattle.registry.specs.HoldersLaws.{place-holds, place-is}
 use Rattle.registry.specs.Registering.{relinked, unregistered}
-use Rattle.registry.specs.RegisteringLaws.{unregistered-ids, unregistered-id, unregistered-object, unregistered-state, unregistered-relinked, unregistered-child, unregistered-frees}
+use Rattle.registry.specs.UnregisteringLaws.{unregistered-ids, unregistered-id, unregistered-object, unregistered-state, unregistered-relinked, unregistered-child, unregistered-frees}
 use Rattle.registry.specs.Without.{past, rank, past-rank, rank-inside}
 use Rattle.registry.specs.Words.{idAt, objectAt, stateAt, linkAt}
 use Rattle.steps.specs.Replies.{Left}
 use Rattle.steps.specs.Steps.{spaceOf, placeIn, objects, unregisterStep, recycleStep}
 use Rattle.steps.specs.declared.Reply.{Reply}
 use Rattle.steps.proofs.laws.RegistryChanged.{RegistryChanged}
-use Rattle.steps.proofs.laws.RegistrySteps.{unregister-step, unregister-step-kept, recycle-step, count-step}
+use Rattle.steps.proofs.laws.RegistrySteps.{unregister-step, unregister-step-kept, recycle-step, add-step}
 use Rattle.token.specs.Token.{idOf}
 use Rattle.world.specs.Numbers.{numbersOf, registeredOf, recycledOf}
 use Rattle.world.specs.Regions.{registry, view}
 use Rattle.world.specs.Sound.{states, links, SoundAt}
-use Rattle.world.specs.Views.{length-view}
+use Rattle.world.specs.Views.{registry-words}
 use Rattle.world.specs.declared.Numbers.{Numbers}
 use Rattle.manager_calls.specs.Calls.{deleteOut}
-use Rattle.manager_calls.proofs.laws.SameIds.{unregister-ids}
-use Rattle.manager_calls.proofs.laws.SameRegistered.{SameRegistered, registered-trans, same-registry, recycle-same, same-place}
-use Rattle.manager_calls.proofs.laws.Sound.{deleted-kept}
-use Rattle.manager_calls.proofs.laws.Ways.{deleted, delete-by-cases}
+use Rattle.manager_laws.proofs.laws.SameIds.{unregister-ids}
+use Rattle.manager_laws.proofs.laws.SameRegistered.{SameRegistered, registered-trans, same-registry, recycle-same, same-place}
+use Rattle.manager_laws.proofs.laws.Sound.{deleted-kept}
+use Rattle.manager_laws.proofs.laws.Ways.{deleted, delete-by-cases}
 
 abbrev pub Registered : Numbers → List ℕ → ℕ → Type 0
 Registered d mem x = placeIn d mem x < registeredOf mem
@@ -72,7 +72,7 @@ module _ (d : Numbers) (mem : List ℕ) (sound : SoundAt d mem) (id : ℕ) (insi
     after = deleted d id mem
 
     long : 5 * d .places + 1 ≤ length rg
-    long = omega (arith, length-view d registry mem tt (sound .long-enough))
+    long = registry-words d mem (sound .long-enough)
 
     left : RegistryChanged d rest 11 (n - 1) mem gone
     left = unregister-step d mem sound k inside
@@ -87,7 +87,7 @@ module _ (d : Numbers) (mem : List ℕ) (sound : SoundAt d mem) (id : ℕ) (insi
     recycling = recycleStep d id gone
 
     counted : RegistryChanged d (view d registry recycling) 10 ((getD recycling 10 0 + 1) % 2 ^ 64) recycling after
-    counted = count-step d recycling (deleted-kept d mem sound id inside room .sound) 10 (omega arith) (omega arith)
+    counted = add-step d recycling (deleted-kept d mem sound id inside room .sound .long-enough) 10 1 (omega arith) (omega arith)
 
     -- Recycling the id and counting leave the registered ids.
     same : SameRegistered d gone after

@@ -6,17 +6,18 @@ use native.Mathlib.Omega.{arith}
 use lib.ListN.{length}
 use Rattle.registry.specs.CollectionLaws.{collected-before}
 use Rattle.registry.specs.HoldersLaws.{same-recycled}
-use Rattle.registry.specs.RegisteringLaws.{registered-other, list-given-other, unregistered-before}
+use Rattle.registry.specs.RegisteringLaws.{registered-other, list-given-other}
+use Rattle.registry.specs.UnregisteringLaws.{unregistered-before}
 use Rattle.registry.specs.Words.{recycledAt}
-use Rattle.steps.specs.Steps.{lookupStep, insertStep, registerStep, listStep, unregisterStep, collectStep, countStep}
+use Rattle.steps.specs.Steps.{lookupStep, insertStep, registerStep, listStep, unregisterStep, collectStep, addStep}
 use Rattle.steps.proofs.laws.OnlySpace.{OnlySpace, lookup-step, insert-step}
 use Rattle.steps.proofs.laws.RegistryChanged.{RegistryChanged}
-use Rattle.steps.proofs.laws.RegistrySteps.{register-step, list-step, unregister-step, collect-step, count-step}
+use Rattle.steps.proofs.laws.RegistrySteps.{register-step, list-step, unregister-step, collect-step, add-step}
 use Rattle.table.specs.declared.CapabilityEntry.{CapabilityEntry}
 use Rattle.world.specs.Numbers.{nextOf, registeredOf, recycledOf}
 use Rattle.world.specs.Regions.{registry, view}
 use Rattle.world.specs.Sound.{recycled, SoundAt}
-use Rattle.world.specs.Views.{length-view}
+use Rattle.world.specs.Views.{registry-words}
 use Rattle.world.specs.declared.Numbers.{Numbers}
 
 pub record SameIds (d : Numbers) (mem after : List ℕ) : Type 0 where
@@ -33,7 +34,7 @@ ids-trans d mem mid after h g = record {
 
 module _ (d : Numbers) (mem : List ℕ) where
   -- Only holders and words of a space change.
-  only-space : (s : ℕ) (after : List ℕ) → OnlySpace d s mem after → SameIds d mem after
+  pub only-space : (s : ℕ) (after : List ℕ) → OnlySpace d s mem after → SameIds d mem after
   only-space s after only = record {
     same-next = only .same-head 5 (omega arith);
     same-count = only .same-head 12 (omega arith);
@@ -58,7 +59,7 @@ module _ (d : Numbers) (mem : List ℕ) (sound : SoundAt d mem) where
   rg = view d registry mem
 
   long : 5 * d .places + 1 ≤ length rg
-  long = omega (arith, length-view d registry mem tt (sound .long-enough))
+  long = registry-words d mem (sound .long-enough)
 
   -- ---- steps of a space
 
@@ -95,8 +96,8 @@ module _ (d : Numbers) (mem : List ℕ) (sound : SoundAt d mem) where
       only-columns d mem _ _ _ _ changed (changed .same-word 12 (omega arith) (omega arith)) (changed .same-word 5 (omega arith) (omega arith))
       (λ j. collected-before (d .places) p n rg inside (sound .registered-fit) long (sound .linked) .behind (4 * d .places + j) (omega arith))
 
-  pub count-ids : (i : ℕ) → 7 ≤ i → i < 11 → SameIds d mem (countStep i mem)
+  pub count-ids : (i : ℕ) → 7 ≤ i → i < 11 → SameIds d mem (addStep i 1 mem)
   count-ids i low high =
-      let changed = count-step d mem sound i low high in
+      let changed = add-step d mem (sound .long-enough) i 1 (omega arith) high in
       only-columns d mem _ _ _ _ changed (changed .same-word 12 (omega arith) (omega arith)) (changed .same-word 5 (omega arith) (omega arith))
       (λ j. refl)

@@ -12,13 +12,13 @@ use Rattle.space.specs.Change.{InsertOut, insertOut}
 use Rattle.space.specs.Lookup.{searchId}
 use Rattle.space.proofs.laws.Insert.{Accepts, insert-by-cases}
 use Rattle.steps.specs.Replies.{replied, refuse}
-use Rattle.steps.specs.Steps.{spaceOf, newEntry, insertStep, unregisterStep, recycleStep, countStep}
+use Rattle.steps.specs.Steps.{spaceOf, newEntry, insertStep, unregisterStep, recycleStep, addStep}
 use Rattle.table.specs.Slots.{idOf}
 use Rattle.table.specs.declared.CapabilityEntry.{CapabilityEntry}
 use Rattle.table.specs.declared.Found.the-variants.{At, Absent}
 use Rattle.world.specs.Numbers.{registeredOf}
 use Rattle.world.specs.declared.Numbers.{Numbers}
 use Rattle.manager_calls.specs.Delegation.{admitted}
 
 -- ---- whether the space takes the entry
 
@@ -59,7 +59,7 @@ module _ (d : Numbers) (s id token object rights i : ℕ) (mem : List ℕ) where
 
   pub admitted-taken :
       Accepts (spaceOf d s mem) (newEntry token object rights)
-      → admitted d s id token object rights i mem ≡ record { reply = replied Done token (insertOut sp e .moved); memory = countStep i after }
+      → admitted d s id token object rights i mem ≡ record { reply = replied Done token (insertOut sp e .moved); memory = addStep i 1 after }
   unfolding admitted
   admitted-taken a = rw (eq-eqb (numberOf (insertOut sp e .answer)) 0 (ap numberOf (accepted-done sp e a)))
 

@@ -28,10 +28,10 @@ use Rattle.token.specs.Token.{idOf, generationOf}
 use Rattle.world.specs.Numbers.{numbersOf, registeredOf}
 use Rattle.world.specs.Regions.{registry, view}
 use Rattle.world.specs.Sound.{states, SoundAt, Sound}
-use Rattle.world.specs.Views.{length-view}
+use Rattle.world.specs.Views.{registry-words}
 use Rattle.world.specs.declared.Numbers.{Numbers}
 use Rattle.manager_calls.specs.Calls.{validIn, grants, checkOut}
-use Rattle.manager_calls.proofs.laws.Ways.{check-by-cases}
+use Rattle.manager_laws.proofs.laws.Ways.{check-by-cases}
 
 -- ---- check
 
@@ -113,6 +113,6 @@ pub collection-exactly :
 collection-exactly d mem sound p inside x =
     let changed = collect-step d mem sound p inside in
     let rg : List ℕ = view d registry mem in
-    let long : 5 * d .places + 1 ≤ length rg = omega (arith, length-view d registry mem tt (sound .long-enough)) in
+    let long : 5 * d .places + 1 ≤ length rg = registry-words d mem (sound .long-enough) in
     rw (changed .new-word, changed .new-registry)
     (collected-exactly (d .places) p (registeredOf mem) rg inside (sound .registered-fit) long (sound .linked) (sound .ids-differ) x)

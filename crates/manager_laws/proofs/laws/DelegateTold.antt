@@ -21,13 +21,13 @@ use Rattle.table.specs.declared.Got.{Got}
 use Rattle.table.specs.declared.Got.the-variants.{Entry, Nothing}
 use Rattle.token.specs.Rights.{holds}
 use Rattle.table.specs.declared.CapabilityEntry.{CapabilityEntry}
-use Rattle.manager_calls.proofs.laws.Roomed.{parentIn}
+use Rattle.manager_laws.proofs.laws.Roomed.{parentIn}
 use Rattle.world.specs.Numbers.{numbersOf, registeredOf}
 use Rattle.world.specs.Sound.{Sound}
 use Rattle.world.specs.declared.Numbers.{Numbers}
 use Rattle.manager_calls.specs.Calls.{delegateOut}
 use Rattle.manager_calls.specs.Delegation.{current}
-use Rattle.manager_calls.proofs.laws.Delegated as delegate
+use Rattle.manager_laws.proofs.laws.Delegated as delegate
 
 abbrev answerOf : Left Reply → Answer
 answerOf out = out .reply .answer

@@ -14,13 +14,13 @@ use Rattle.steps.specs.Steps.{takenId, takeStep, recycleStep}
 use Rattle.steps.specs.declared.Taken.the-variants.{Id}
 use Rattle.steps.proofs.laws.RegistryChanged.{registry-changed, word-changed}
 use Rattle.steps.proofs.laws.RegistrySteps.{recycle-step}
-use Rattle.steps.proofs.laws.TakeStep.{take-by-cases}
+use Rattle.steps.proofs.laws.TakeStep.{take-by-cases, taken-free}
 use Rattle.world.specs.Numbers.{numbersOf, nextOf, registeredOf, recycledOf}
 use Rattle.world.specs.Regions.{registry, view, onRegion}
 use Rattle.world.specs.Sound.{ids, recycled, SoundAt}
-use Rattle.world.specs.Views.{length-view}
+use Rattle.world.specs.Views.{registry-words}
 use Rattle.world.specs.declared.Numbers.{Numbers}
-use Rattle.manager_calls.proofs.laws.SameIds.{SameIds}
+use Rattle.manager_laws.proofs.laws.SameIds.{SameIds}
 
 -- ---- spent ids
 
@@ -72,7 +72,7 @@ module _ (d : Numbers) (mem : List ℕ) (sound : SoundAt d mem) where
   rg = view d registry mem
 
   long : 5 * d .places + 1 ≤ length rg
-  long = omega (arith, length-view d registry mem tt (sound .long-enough))
+  long = registry-words d mem (sound .long-enough)
 
   smallest-none :
       0 < recycledOf mem → NoneFreed d mem (set (onRegion d registry (firstTaken (d .places) (recycledOf mem)) mem) 12 (recycledOf mem - 1))
@@ -124,6 +124,12 @@ module _ (d : Numbers) (mem : List ℕ) (sound : SoundAt d mem) where
   taken-unspent id x is spent same =
       spent .not-recycled (subst (Recycled d mem) same (taken-from id is (rw same (spent .issued))))
 
+  -- It is spent then.
+  pub taken-spent : (id : ℕ) → takenId d mem ≡ Id id → SpentAt d (takeStep d mem) id
+  taken-spent id is =
+      let free = taken-free d mem sound id is in
+      record { issued = free .issued; not-recycled = λ (j, (l, e)). free .not-recycled j l e }
+
   pub registered-spent : (x : ℕ) → Among (registeredOf mem) (ids d mem) x → SpentAt d mem x
   registered-spent x (k, (l, e)) = record {
     issued = rw e at (sound .ids-issued k l .1);
@@ -135,7 +141,7 @@ module _ (d : Numbers) (mem : List ℕ) (sound : SoundAt d mem) (id : ℕ) (room
   pub recycle-has : (x : ℕ) → Recycled d (recycleStep d id mem) x ↔ ((x ≡ id) ⊎ Recycled d mem x)
   recycle-has x =
       let changed = recycle-step d mem sound id room in
-      let long : 5 * d .places + 1 ≤ length (view d registry mem) = omega (arith, length-view d registry mem tt (sound .long-enough)) in
+      let long : 5 * d .places + 1 ≤ length (view d registry mem) = registry-words d mem (sound .long-enough) in
       rw (changed .new-word, changed .new-registry)
       (recycled-with-has (d .places) (recycledOf mem) id (view d registry mem) room long x)
 

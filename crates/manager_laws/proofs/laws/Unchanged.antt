@@ -20,15 +20,15 @@ use Rattle.table.specs.declared.Got.the-variants.{Nothing}
 use Rattle.world.specs.Numbers.{numbersOf, registeredOf}
 use Rattle.world.specs.Sound.{Sound}
 use Rattle.world.specs.declared.Numbers.{Numbers}
 use Rattle.manager_calls.specs.Calls.{createOut, delegateOut, deleteOut, checkOut}
-use Rattle.manager_calls.proofs.laws.Created as create
-use Rattle.manager_calls.proofs.laws.CreateTold.{create-told-22, create-told-4}
-use Rattle.manager_calls.proofs.laws.Delegated as delegate
-use Rattle.manager_calls.proofs.laws.DelegateTold.{delegate-told-26, delegate-told-20, delegate-told-6, delegate-told-10, delegate-told-9, delegate-told-3, delegate-told-22, delegate-told-4}
-use Rattle.manager_calls.proofs.laws.Recording.{listed, recording}
-use Rattle.manager_calls.proofs.laws.SameRegistered.{SameRegistered, registered-trans, take-same}
-use Rattle.manager_calls.proofs.laws.Ways.{delete-by-cases, check-by-cases}
-use Rattle.manager_calls.proofs.laws.Undone.{Undone, admission-undone}
+use Rattle.manager_laws.proofs.laws.Created as create
+use Rattle.manager_laws.proofs.laws.CreateTold.{create-told-22, create-told-4}
+use Rattle.manager_laws.proofs.laws.Delegated as delegate
+use Rattle.manager_laws.proofs.laws.DelegateTold.{delegate-told-26, delegate-told-20, delegate-told-6, delegate-told-10, delegate-told-9, delegate-told-3, delegate-told-22, delegate-told-4}
+use Rattle.manager_laws.proofs.laws.Recording.{listed, recording}
+use Rattle.manager_laws.proofs.laws.SameRegistered.{SameRegistered, registered-trans, take-same}
+use Rattle.manager_laws.proofs.laws.Ways.{delete-by-cases, check-by-cases}
+use Rattle.manager_laws.proofs.laws.Undone.{Undone, admission-undone}
 
 -- Where none is left, nothing is taken.
 none-taken : (d : Numbers) (mem : List ℕ) → takenId d mem ≡ Exhausted → takeStep d mem ≡ mem

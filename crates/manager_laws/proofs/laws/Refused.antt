@@ -11,22 +11,22 @@ use lib.Dec.{leb, ltb}
 use lib.ListN.{length}
 use Rattle.answers.specs.Number.{numberOf}
 use Rattle.answers.specs.declared.Answer.{Answer}
-use Rattle.answers.specs.declared.Answer.the-variants.{Done, InsufficientRights, CapabilityRevoked, NotFound, BadField, RecycleFull, BadWorld}
+use Rattle.answers.specs.declared.Answer.the-variants.{Done, InsufficientRights, CapabilityRevoked, NotFound, BadSpace, BadField, RecycleFull, BadWorld}
 use Rattle.space.specs.Lookup.{lookedUp}
-use Rattle.steps.specs.Replies.{Left, Listed}
+use Rattle.steps.specs.Replies.{Left, Listed, done, refusal}
 use Rattle.steps.specs.Steps.{spaceOf, lookupStep, placeIn, childrenOf}
 use Rattle.steps.specs.declared.Reply.{Reply}
-use Rattle.steps.proofs.laws.Cases.{when-by-cases}
-use Rattle.steps.proofs.laws.Entered.{world-by-cases}
+use Rattle.steps.proofs.laws.Cases.{when-by-cases, given, not-given}
+use Rattle.steps.proofs.laws.Entered.{world-by-cases, space-by-cases}
 use Rattle.steps.proofs.laws.Told.{Told, Inner, told, world-told, inner, inner-0}
 use Rattle.token.specs.Token.{idOf}
 use Rattle.world.specs.Numbers.{numbersOf, registeredOf, recycledOf}
 use Rattle.world.specs.Sound.{Sound}
 use Rattle.world.specs.declared.Numbers.{Numbers}
 use Rattle.manager_calls.specs.Calls.{deleteOut, grants, validIn, checkOut, isValidOut, statsOut, childrenOut, treeStatsOut, censusOut}
 use Rattle.manager_calls.specs.declared.StatsReply.{StatsReply}
 use Rattle.manager_calls.specs.declared.TreeReply.{TreeReply}
-use Rattle.manager_calls.proofs.laws.Ways.{delete-by-cases, check-by-cases}
+use Rattle.manager_laws.proofs.laws.Ways.{delete-by-cases, check-by-cases}
 
 abbrev answerOf : Left Reply → Answer
 answerOf out = out .reply .answer
@@ -82,6 +82,34 @@ module _ (mem : List ℕ) where
       (λ fits.
       when-by-cases fine _ _ (not (leb (childrenOf d mem (placeIn d mem id)) (length area))) (λ short. inner BadField refl refl)
       (λ long. inner-0)))
+
+-- ---- 0 of the calls with no refusal of their own
+
+module _ (mem : List ℕ) where
+  pub is-valid-told-0 : (token : ℕ) → (isValidOut mem token .answer ≡ Done) ↔ Sound mem
+  unfolding isValidOut
+  is-valid-told-0 token =
+      world-by-cases (λ (r : Reply). (r .answer ≡ Done) ↔ Sound mem) _ mem _ (not-given BadWorld Done (λ e. omega (arith, e))) (given refl)
+
+  pub stats-told-0 : (statsOut mem .answer ≡ Done) ↔ Sound mem
+  unfolding statsOut
+  stats-told-0 =
+      world-by-cases (λ (r : StatsReply). (r .answer ≡ Done) ↔ Sound mem) _ mem _ (not-given BadWorld Done (λ e. omega (arith, e)))
+      (given refl)
+
+  pub tree-stats-told-0 : (treeStatsOut mem .answer ≡ Done) ↔ Sound mem
+  unfolding treeStatsOut
+  tree-stats-told-0 =
+      world-by-cases (λ (r : TreeReply). (r .answer ≡ Done) ↔ Sound mem) _ mem _ (not-given BadWorld Done (λ e. omega (arith, e)))
+      (given refl)
+
+  pub census-told-0 : (s : ℕ) → (censusOut mem s .answer ≡ Done) ↔ (Sound mem × (s < numbersOf mem .spaces))
+  unfolding censusOut
+  census-told-0 s =
+      space-by-cases (λ (r : Reply). (r .answer ≡ Done) ↔ (Sound mem × (s < numbersOf mem .spaces))) _ mem _
+      (λ bad. not-given BadWorld Done (λ e. omega (arith, e)) (λ (sound, there). bad sound)) s
+      (λ sound far. not-given BadSpace Done (λ e. omega (arith, e)) (λ (sound, there). omega arith))
+      (λ sound there. given refl (sound, there))
 
 -- ---- delete, check, the list of children
 
@@ -151,26 +179,37 @@ module _ (mem : List ℕ) (sound : Sound mem) where
         (λ sound there with′ stale. (λ e. (with′, stale), λ any. refl))
         (λ sound there with′ is. (λ e. absurd (omega (arith, ap numberOf e)), λ (w, i). absurd (true≢false (sym is ∙ i))))
 
-  pub children-told-21 :
-      (id : ℕ) (area : List ℕ)
-      → (childrenOut mem id area .reply .answer ≡ BadField)
-      ↔ ((2 ^ 48 ≤ id) ⊎ (length area < childrenOf (numbersOf mem) mem (placeIn (numbersOf mem) mem id)))
-  unfolding childrenOut
-  children-told-21 id area =
-      world-by-cases Said _ mem _ (λ bad. absurd (bad sound))
-      (λ sound.
-      when-by-cases Said _ _ (leb (2 ^ 48) id)
-      (λ over. (λ e. inl (leb-true (2 ^ 48) id over), λ any. refl))
-      (λ fits.
-      when-by-cases Said _ _ (not (leb count (length area)))
-      (λ short. (λ e. inr (leb-false count (length area) (not-true _ short)), λ any. refl))
-      (λ long. (
-        λ e. absurd (omega (arith, ap numberOf e)),
-        λ any. absurd (⊎-elim (λ l. omega (arith, leb-false (2 ^ 48) id fits)) (λ l. omega (arith, leb-true count (length area) (not-false _ long))) any),
-      ))))
-    where
-      count : ℕ
-      count = childrenOf (numbersOf mem) mem (placeIn (numbersOf mem) mem id)
+  module _ (id : ℕ) (area : List ℕ) where
+    abbrev count : ℕ
+    count = childrenOf (numbersOf mem) mem (placeIn (numbersOf mem) mem id)
 
-      Said : Listed → Type 0
-      Said l = (l .reply .answer ≡ BadField) ↔ ((2 ^ 48 ≤ id) ⊎ (length area < count))
+    children-by-cases :
+        (P : Listed → Type 0) → ((2 ^ 48 ≤ id) ⊎ (length area < count) → P (record { reply = refusal BadField; area = area }))
+        → (id < 2 ^ 48 → count ≤ length area → (after : List ℕ) → P (record { reply = done count; area = after }))
+        → P (childrenOut mem id area)
+    unfolding childrenOut
+    children-by-cases P refused listed =
+        world-by-cases P _ mem _ (λ bad. absurd (bad sound))
+        (λ sound.
+        when-by-cases P _ _ (leb (2 ^ 48) id)
+        (λ over. refused (inl (leb-true (2 ^ 48) id over)))
+        (λ fits.
+        when-by-cases P _ _ (not (leb count (length area)))
+        (λ short. refused (inr (leb-false count (length area) (not-true _ short))))
+        (λ long. listed (leb-false (2 ^ 48) id fits) (leb-true count (length area) (not-false _ long)) _)))
+
+    pub children-told-21 :
+        (childrenOut mem id area .reply .answer ≡ BadField)
+        ↔ ((2 ^ 48 ≤ id) ⊎ (length area < childrenOf (numbersOf mem) mem (placeIn (numbersOf mem) mem id)))
+    children-told-21 =
+        children-by-cases (λ (l : Listed). (l .reply .answer ≡ BadField) ↔ ((2 ^ 48 ≤ id) ⊎ (length area < count)))
+        (λ any. given refl any)
+        (λ fits long after. not-given Done BadField (λ e. omega (arith, e)) (⊎-elim (λ over. omega arith) (λ short. omega arith)))
+
+    pub children-told-0 :
+        (childrenOut mem id area .reply .answer ≡ Done)
+        ↔ ((id < 2 ^ 48) × (childrenOf (numbersOf mem) mem (placeIn (numbersOf mem) mem id) ≤ length area))
+    children-told-0 =
+        children-by-cases (λ (l : Listed). (l .reply .answer ≡ Done) ↔ ((id < 2 ^ 48) × (count ≤ length area)))
+        (λ any. not-given BadField Done (λ e. omega (arith, e)) (λ (fits, long). ⊎-elim (λ over. omega arith) (λ short. omega arith) any))
+        (λ fits long after. given refl (fits, long))

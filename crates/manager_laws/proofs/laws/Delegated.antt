@@ -16,7 +16,7 @@ use Rattle.space.specs.Change.{insertOut}
 use Rattle.space.specs.Lookup.{lookedUp}
 use Rattle.space.proofs.laws.Insert.{Accepts}
 use Rattle.steps.specs.Replies.{Left, replied, done, refuse}
-use Rattle.steps.specs.Steps.{spaceOf, lookupStep, newEntry, insertStep, takenId, takeStep, objects, registerStep, listStep, unregisterStep, recycleStep, childrenOf, countStep}
+use Rattle.steps.specs.Steps.{spaceOf, lookupStep, newEntry, insertStep, takenId, takeStep, objects, registerStep, listStep, unregisterStep, recycleStep, childrenOf, addStep}
 use Rattle.steps.specs.declared.Reply.{Reply}
 use Rattle.steps.specs.declared.Taken.{Taken}
 use Rattle.steps.specs.declared.Taken.the-variants.{Id, Exhausted}
@@ -33,12 +33,12 @@ use Rattle.token.specs.Token.{idOf, typeOf}
 use Rattle.world.specs.Numbers.{numbersOf, registeredOf}
 use Rattle.world.specs.Sound.{SoundAt, Sound}
 use Rattle.world.specs.declared.Numbers.{Numbers}
 use Rattle.manager_calls.specs.Calls.{delegateOut}
 use Rattle.manager_calls.specs.Delegation.{tokenOf, admitted, Offered, offered, current, derived, withId, withRoom, offering, granting}
-use Rattle.manager_calls.proofs.laws.Admitted.{accepts-or-not, admitted-taken, admitted-undone}
-use Rattle.manager_calls.proofs.laws.Roomed.{parentIn, roomed, roomed-kept, crowded-goes, roomed-goes}
-use Rattle.manager_calls.proofs.laws.SameRegistered.{SameRegistered, take-same, same-place, same-current}
-use Rattle.manager_calls.proofs.laws.Sound.{offered-kept}
+use Rattle.manager_laws.proofs.laws.Admitted.{accepts-or-not, admitted-taken, admitted-undone}
+use Rattle.manager_laws.proofs.laws.Roomed.{parentIn, roomed, roomed-kept, crowded-goes, roomed-goes}
+use Rattle.manager_laws.proofs.laws.SameRegistered.{SameRegistered, take-same, same-place, same-current}
+use Rattle.manager_laws.proofs.laws.Sound.{offered-kept}
 
 module _ (mem : List ℕ) (token source target rights : ℕ) where
   abbrev d : Numbers
@@ -170,7 +170,7 @@ module _ (mem : List ℕ) (token source target rights : ℕ) where
         reply =
             replied Done (childEntry (g .took) .capability .0)
             (insertOut (spaceOf (numbersOf mem) target (recorded (g .took))) (childEntry (g .took)) .moved);
-        memory = countStep 8 (insertedChild (g .took));
+        memory = addStep 8 1 (insertedChild (g .took));
       }
 
   -- ---- there is a way

@@ -9,7 +9,8 @@ use lib.ListN.{length, getD}
 use Rattle.answers.specs.Number.{numberOf}
 use Rattle.base.specs.Part.{onPart-same}
 use Rattle.registry.specs.Registering.{registered, unregistered}
-use Rattle.registry.specs.RegisteringLaws.{same-places-trans, registered-other, unregistered-before}
+use Rattle.registry.specs.RegisteringLaws.{same-places-trans, registered-other}
+use Rattle.registry.specs.UnregisteringLaws.{unregistered-before}
 use Rattle.space.specs.Change.{insertOut}
 use Rattle.space.proofs.laws.Insert.{Accepts, refused-changes-nothing}
 use Rattle.steps.specs.Steps.{spaceOf, insertStep, registerStep, unregisterStep, recycleStep}
@@ -20,13 +21,13 @@ use Rattle.table.specs.declared.CapabilityEntry.{CapabilityEntry}
 use Rattle.world.specs.Numbers.{registeredOf, recycledOf}
 use Rattle.world.specs.Regions.{space, registry, log, queue, startOf, sizeOf, view}
 use Rattle.world.specs.Sound.{SoundAt}
-use Rattle.world.specs.Views.{length-view}
+use Rattle.world.specs.Views.{registry-words}
 use Rattle.world.specs.declared.Numbers.{Numbers}
-use Rattle.manager_calls.proofs.laws.Admitted.{refused-number}
-use Rattle.manager_calls.proofs.laws.SameIds.{SameIds, register-ids, unregister-ids, ids-trans}
-use Rattle.manager_calls.proofs.laws.SameRegistered.{SameRegistered, registered-trans, same-places, recycle-same}
-use Rattle.manager_calls.proofs.laws.Sound.{Registration, registered-kept}
-use Rattle.manager_calls.proofs.laws.Spent.{Recycled, recycle-has}
+use Rattle.manager_laws.proofs.laws.Admitted.{refused-number}
+use Rattle.manager_laws.proofs.laws.SameIds.{SameIds, register-ids, unregister-ids, ids-trans}
+use Rattle.manager_laws.proofs.laws.SameRegistered.{SameRegistered, registered-trans, same-places, recycle-same}
+use Rattle.manager_laws.proofs.laws.Sound.{Registration, registered-kept}
+use Rattle.manager_laws.proofs.laws.Spent.{Recycled, recycle-has}
 
 -- Word 12 of the head is the number of recycled ids.
 pub record Undone (d : Numbers) (mem : List ℕ) (id : ℕ) (after : List ℕ) : Type 0 where
@@ -68,7 +69,7 @@ module _ (d : Numbers) (mem : List ℕ) (id object link : ℕ) (reg : Registrati
   left = unregister-step d with-id there n inside
 
   long : (ws : List ℕ) → SoundAt d ws → 5 * d .places + 1 ≤ length (view d registry ws)
-  long ws is = omega (arith, length-view d registry ws tt (is .long-enough))
+  long ws is = registry-words d ws (is .long-enough)
 
   gone-registered : SameRegistered d mem gone
   gone-registered =

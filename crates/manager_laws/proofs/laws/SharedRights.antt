@@ -26,11 +26,11 @@ use Rattle.token.specs.Token.{typeOf}
 use Rattle.world.specs.Numbers.{numbersOf, registeredOf}
 use Rattle.world.specs.Sound.{ids, SoundAt}
 use Rattle.world.specs.declared.Numbers.{Numbers}
 use Rattle.manager_calls.specs.Calls.{delegateOut}
 use Rattle.manager_calls.specs.Delegation.{tokenOf, heldWith, openChild, Offered, offeredFrom}
-use Rattle.manager_calls.proofs.laws.Delegated as delegate
-use Rattle.manager_calls.proofs.laws.Roomed.{parentIn}
-use Rattle.manager_calls.proofs.laws.Standing.{delegated-stands}
+use Rattle.manager_laws.proofs.laws.Delegated as delegate
+use Rattle.manager_laws.proofs.laws.Roomed.{parentIn}
+use Rattle.manager_laws.proofs.laws.Standing.{delegated-stands}
 
 -- The common bits are in the first set and in the second.
 pub common-in-first : (a b : ℕ) → holds a (common a b) ≡ true

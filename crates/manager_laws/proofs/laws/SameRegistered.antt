@@ -27,10 +27,10 @@ use Rattle.token.specs.Token.{idOf, generationOf}
 use Rattle.world.specs.Numbers.{registeredOf, recycledOf}
 use Rattle.world.specs.Regions.{space, registry, view}
 use Rattle.world.specs.Sound.{ids, states, links, SoundAt}
-use Rattle.world.specs.Views.{length-view, view-other, head-kept}
+use Rattle.world.specs.Views.{view-other, head-kept, registry-words}
 use Rattle.world.specs.declared.Numbers.{Numbers}
 use Rattle.manager_calls.specs.Calls.{validIn}
 use Rattle.manager_calls.specs.Delegation.{current}
 
 pub record SameRegistered (d : Numbers) (mem after : List ℕ) : Type 0 where
   pub same-count : registeredOf after ≡ registeredOf mem
@@ -106,7 +106,7 @@ module _ (d : Numbers) (mem : List ℕ) (sound : SoundAt d mem) where
   recycle-same id room =
       let changed = recycle-step d mem sound id room in
       let rg : List ℕ = view d registry mem in
-      let long : 5 * d .places + 1 ≤ length rg = omega (arith, length-view d registry mem tt (sound .long-enough)) in
+      let long : 5 * d .places + 1 ≤ length rg = registry-words d mem (sound .long-enough) in
       same-columns d mem _ (sound .registered-fit) (changed .same-word 11 (omega arith) (omega arith))
       (λ i l. ap (λ ws. getD ws i 0) (changed .new-registry) ∙ recycled-with-columns (d .places) (recycledOf mem) id rg room long i l)
 

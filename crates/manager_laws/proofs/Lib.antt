@@ -1,0 +1,2 @@
+-- What is promised of the calls of the manager.
+pub mod laws
