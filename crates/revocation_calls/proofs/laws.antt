@@ -1,17 +1,2 @@
--- Laws of the calls of revocation, from their definitions alone.
+-- The law of the calls of revocation that the code's proofs take too.
 pub mod Kept
-pub mod Ways
-pub mod NoticeWays
-pub mod Given
-pub mod Counted
-pub mod Sound
-pub mod Told
-pub mod Unchanged
-pub mod RevokeTold
-pub mod HeldTold
-pub mod ListsTold
-pub mod Batch
-pub mod Meaning
-pub mod Unregistered
-pub mod Tree
-pub mod Queues

@@ -12,14 +12,14 @@ use Rattle.base.specs.Choose.{pick, when}
 use Rattle.registry.specs.Words.{revoked}
 use Rattle.revocation.specs.Log.{pairOf, absentOf}
 use Rattle.steps.specs.Replies.{Left, replied, done, refuse}
-use Rattle.revocation_steps.specs.Revocation.{addStep, logOf, logStep, freeQueues, cascadePairs, cascadeQueues, revokeStep}
-use Rattle.steps.specs.Steps.{placeIn}
+use Rattle.revocation_steps.specs.Revocation.{logOf, logStep, freeQueues, carriedOut, queuesNeeded, cascadePairs, cascadeQueues, revokeStep}
+use Rattle.steps.specs.Steps.{placeIn, addStep}
 use Rattle.steps.specs.declared.Reply.{Reply}
 use Rattle.table.specs.declared.Got.{Got}
 use Rattle.table.specs.declared.Got.the-variants.{Entry, Nothing}
 use Rattle.token.specs.Rights.{holds}
 use Rattle.token.specs.Token.{idOf, generationOf}
-use Rattle.world.specs.Numbers.{registeredOf, loggedOf}
+use Rattle.world.specs.Numbers.{registeredOf, loggedOf, epochWord}
 use Rattle.world.specs.Sound.{states}
 use Rattle.world.specs.declared.Numbers.{Numbers}
 
@@ -32,12 +32,19 @@ revoking d r time listed mem =
     (when (ltb (freeQueues d mem) (cascadeQueues d mem r listed)) (refuse mem PidTableFull)
     (record { reply = done 0; memory = revokeStep d r time listed mem })))
 
+-- The same of a cascade that is listed already: its places, their ids, and of their pairs those that the log has not.
+abbrev pub carryingOut : Numbers → List ℕ → List ℕ → List ℕ → ℕ → List ℕ → List ℕ → Left Reply
+carryingOut d places ids pairs time listed mem =
+    when (ltb (d .pairs) (loggedOf mem + length pairs)) (refuse mem LogFull)
+    (when (ltb (freeQueues d mem) (queuesNeeded d mem listed (length places))) (refuse mem PidTableFull)
+    (record { reply = done 0; memory = carriedOut d places ids pairs time listed mem }))
+
 -- Unregistered: the token's pair joins the log if absent, epoch plus one, 0.
 unfoldable pub listing : Numbers → ℕ → List ℕ → Left Reply
 listing d token mem =
     let pairs = absentOf (loggedOf mem) (logOf d mem) (pairOf (idOf token) (generationOf token) ∷ []) in
     when (ltb (d .pairs) (loggedOf mem + length pairs)) (refuse mem LogFull)
-    (record { reply = done 0; memory = addStep 6 1 (logStep d pairs mem) })
+    (record { reply = done 0; memory = addStep epochWord 1 (logStep d pairs mem) })
 
 -- `revoke_capability` looks at the id only.
 unfoldable pub revokingToken : Numbers → ℕ → ℕ → List ℕ → List ℕ → Left Reply

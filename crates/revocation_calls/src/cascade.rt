@@ -2,31 +2,25 @@
 // place of its id on.
 ghost use mathlib.Core.Path.{_≡_};
 ghost use Prim.Native.Nat.{_+_, _<_, _≤_};
-ghost use lib.Dec.{ltb};
-ghost use lib.ListN.{length, take, drop};
-ghost use Rattle.answers.specs.declared.Answer.the-variants.{LogFull, PidTableFull};
-ghost use Rattle.base.specs.Choose.{pick, when};
-ghost use Rattle.registry.specs.Descent.{marked};
+ghost use lib.ListN.{length, take};
 ghost use Rattle.registry.specs.PlaceLists.{AllBelow};
-ghost use Rattle.revocation_steps.specs.Revocation.{addStep, cascade, logStep, freeQueues, newQueues, notifyAll};
+ghost use Rattle.revocation_steps.specs.Revocation.{cascade, carriedOut, queuesNeeded};
 ghost use Rattle.steps.specs.Ready.{Ready, QueuesReady};
-ghost use Rattle.steps.specs.Replies as spec;
 ghost use Rattle.world.specs.Numbers.{registeredOf, loggedOf};
-ghost use Rattle.world.specs.Regions.{registry, onRegion};
 ghost use Rattle.world.specs.Sound.{SoundAt};
-ghost use Rattle.revocation_calls.specs.Revoking.{revoking};
+ghost use Rattle.revocation_calls.specs.Revoking.{revoking, carryingOut};
 use answers::Answer;
 use revocation_steps::descent::descend;
 use revocation_steps::descent::ids_at;
 use revocation_steps::descent::keep_unrevoked;
 use revocation_steps::descent::mark;
-use revocation_steps::log::add;
 use revocation_steps::log::append_pairs;
 use revocation_steps::log::keep_absent;
 use revocation_steps::queues::free_queues;
 use revocation_steps::queues::new_queues;
 use revocation_steps::queues::notify_all;
 use steps::Reply;
+use steps::registered::add;
 use steps::registered::state_at;
 use steps::replies::done;
 use steps::replies::refusal;
@@ -45,7 +39,7 @@ fn cascade_places(mem: &[u64], d: Numbers, r: usize, order: &mut [u16]) -> usize
 // How many new queues a cascade over `count` places needs: none where it revokes no descendant.
 fn queues_needed(mem: &[u64], d: Numbers, listed: &[u64], count: usize) -> usize
     requires { ⌜ Ready d (now mem) ⌝ }
-    ensures { λ r. ⌜ r ≡ pick (ltb 1 count) (newQueues d (now (mem .entry)) (now (listed .entry))) 0 ⌝ }
+    ensures { λ r. ⌜ r ≡ queuesNeeded d (now (mem .entry)) (now (listed .entry)) count ⌝ }
 {
     if 1 < count {
         return new_queues(mem, d, listed);
@@ -66,7 +60,10 @@ fn revoke_places(
 )
     requires { ⌜ Ready d (now mem) × QueuesReady d (now mem) × AllBelow (d .places) (now order) ⌝ }
     requires { ⌜ (loggedOf (now mem) + length (now pairs) ≤ d .pairs) × (0 < length (now ids)) ⌝ }
-    ensures { λ _. ⌜ now (mem .exit) ≡ notifyAll d (now (listed .entry)) (drop 1 (now (ids .entry))) time (addStep 6 (length (now (order .entry))) (logStep d (now (pairs .entry)) (addStep 9 (length (now (order .entry))) (onRegion d registry (marked (d .places) (now (order .entry))) (now (mem .entry)))))) ⌝ }
+    ensures { λ _. ⌜
+        now (mem .exit)
+        ≡ carriedOut d (now (order .entry)) (now (ids .entry)) (now (pairs .entry)) time (now (listed .entry)) (now (mem .entry))
+        ⌝ }
 {
     mark(mem, d, order);
     add(mem, 9, order.len());
@@ -86,7 +83,10 @@ fn revoke_listed(
     listed: &[u64],
 ) -> Reply
     requires { ⌜ SoundAt d (now mem) × AllBelow (d .places) (now order) × (0 < length (now ids)) × (length (now pairs) ≤ 4096) ⌝ }
-    ensures { λ reply. ⌜ record { reply = reply; memory = now (mem .exit) } ≡ when (ltb (d .pairs) (loggedOf (now (mem .entry)) + length (now (pairs .entry)))) (spec.refuse (now (mem .entry)) LogFull) (when (ltb (freeQueues d (now (mem .entry))) (pick (ltb 1 (length (now (order .entry)))) (newQueues d (now (mem .entry)) (now (listed .entry))) 0)) (spec.refuse (now (mem .entry)) PidTableFull) (record { reply = spec.done 0; memory = notifyAll d (now (listed .entry)) (drop 1 (now (ids .entry))) time (addStep 6 (length (now (order .entry))) (logStep d (now (pairs .entry)) (addStep 9 (length (now (order .entry))) (onRegion d registry (marked (d .places) (now (order .entry))) (now (mem .entry)))))) })) ⌝ }
+    ensures { λ reply. ⌜
+        record { reply = reply; memory = now (mem .exit) }
+        ≡ carryingOut d (now (order .entry)) (now (ids .entry)) (now (pairs .entry)) time (now (listed .entry)) (now (mem .entry))
+        ⌝ }
 {
     if d.pairs < mem[13] as usize + pairs.len() {
         return refusal(Answer::LogFull);

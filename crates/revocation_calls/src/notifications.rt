@@ -29,7 +29,10 @@ use world::Numbers;
 // Whether a notice for the pid has nowhere to go: it has no queue, and no place is free.
 fn has_no_place(mem: &[u64], d: Numbers, pid: u64) -> bool
     requires { ⌜ Fits d (now mem) ⌝ }
-    ensures { λ r. ⌜ r ≡ both (not (ltb (queueFor d (now (mem .entry)) pid) (d .queues))) (not (ltb (freeQueue d (now (mem .entry))) (d .queues))) ⌝ }
+    ensures { λ r. ⌜
+        r
+        ≡ both (not (ltb (queueFor d (now (mem .entry)) pid) (d .queues))) (not (ltb (freeQueue d (now (mem .entry))) (d .queues)))
+        ⌝ }
 {
     if queue_for(mem, d, pid) < d.queues {
         return false;
@@ -115,7 +118,10 @@ fn remove_queue(mem: &mut [u64], d: Numbers, q: usize)
 
 // The same, and the queue is then no more.
 pub fn drain_notifications(mem: &mut [u64], pid: u64, area: &mut [u64]) -> Reply
-    ensures { λ r. ⌜ record { reply = record { reply = r; area = now (area .exit) }; memory = now (mem .exit) } ≡ drainOut (now (mem .entry)) pid (now (area .entry)) ⌝ }
+    ensures { λ r. ⌜
+        record { reply = record { reply = r; area = now (area .exit) }; memory = now (mem .exit) }
+        ≡ drainOut (now (mem .entry)) pid (now (area .entry))
+        ⌝ }
 {
     match enter_world(mem) {
         Entered::Refused(answer) => refusal(answer),

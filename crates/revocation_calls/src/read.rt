@@ -44,7 +44,10 @@ pub fn epoch(mem: &[u64]) -> Reply
 // The ids under place r, breadth first, to the front of the area.
 fn list_under(mem: &[u64], d: Numbers, r: usize, area: &mut [u64]) -> Reply
     requires { ⌜ SoundAt d (now mem) × (r < registeredOf (now mem)) ⌝ }
-    ensures { λ reply. ⌜ record { reply = reply; area = now (area .exit) } ≡ listedIn (descendants d (now (mem .entry)) r) (now (area .entry)) ⌝ }
+    ensures { λ reply. ⌜
+        record { reply = reply; area = now (area .exit) }
+        ≡ listedIn (descendants d (now (mem .entry)) r) (now (area .entry))
+        ⌝ }
 {
     let mut order = [0u16; 4096];
     let count = descend(mem, d, r, &mut order);

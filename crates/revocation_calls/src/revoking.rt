@@ -9,7 +9,6 @@ ghost use Rattle.revocation_calls.specs.Calls.{revokeOut, revokeCapabili
 ghost use Rattle.revocation_calls.specs.Revoking.{listing, revokingToken, revokingHeld, revokingEach};
 use super::cascade::revoke_at;
 use answers::Answer;
-use revocation_steps::log::add;
 use revocation_steps::log::append_pairs;
 use revocation_steps::log::keep_absent;
 use space::LookedUp;
@@ -17,6 +16,7 @@ use steps::Entered;
 use steps::Reply;
 use steps::enter::enter_space;
 use steps::enter::enter_world;
+use steps::registered::add;
 use steps::registered::place_of;
 use steps::replies::done;
 use steps::replies::refusal;
@@ -50,7 +50,10 @@ fn revoke_token(
     listed: &[u64],
 ) -> Reply
     requires { ⌜ SoundAt d (now mem) ⌝ }
-    ensures { λ r. ⌜ record { reply = r; memory = now (mem .exit) } ≡ revokingToken d (token .0) time (now (listed .entry)) (now (mem .entry)) ⌝ }
+    ensures { λ r. ⌜
+        record { reply = r; memory = now (mem .exit) }
+        ≡ revokingToken d (token .0) time (now (listed .entry)) (now (mem .entry))
+        ⌝ }
 {
     let r = place_of(mem, d, token.id());
     if r < mem[11] as usize {
@@ -69,7 +72,10 @@ fn revoke_looked_up(
     l: LookedUp,
 ) -> Reply
     requires { ⌜ SoundAt d (now mem) ⌝ }
-    ensures { λ r. ⌜ record { reply = r; memory = now (mem .exit) } ≡ revokingHeld d (token .0) time (now (listed .entry)) (now (mem .entry)) (l .got) (l .visits) ⌝ }
+    ensures { λ r. ⌜
+        record { reply = r; memory = now (mem .exit) }
+        ≡ revokingHeld d (token .0) time (now (listed .entry)) (now (mem .entry)) (l .got) (l .visits)
+        ⌝ }
 {
     let got = l.got;
     match got {
@@ -101,7 +107,10 @@ fn revoke_looked_up(
 // Each token in turn; answers how many gave 0.
 fn revoke_each(mem: &mut [u64], d: Numbers, tokens: &[u64], time: u64, listed: &[u64]) -> u64
     requires { ⌜ SoundAt d (now mem) × (length (now tokens) ≤ 65535) ⌝ }
-    ensures { λ gave. ⌜ record { reply = done gave; memory = now (mem .exit) } ≡ revokingEach d (now (tokens .entry)) time (now (listed .entry)) 0 (now (mem .entry)) ⌝ }
+    ensures { λ gave. ⌜
+        record { reply = done gave; memory = now (mem .exit) }
+        ≡ revokingEach d (now (tokens .entry)) time (now (listed .entry)) 0 (now (mem .entry))
+        ⌝ }
 {
     let mut gave = 0;
     let mut j = 0;
@@ -142,7 +151,10 @@ pub fn revoke_capability(
     time: u64,
     listed: &[u64],
 ) -> Reply
-    ensures { λ r. ⌜ record { reply = r; memory = now (mem .exit) } ≡ revokeCapabilityOut (now (mem .entry)) (token .0) time (now (listed .entry)) ⌝ }
+    ensures { λ r. ⌜
+        record { reply = r; memory = now (mem .exit) }
+        ≡ revokeCapabilityOut (now (mem .entry)) (token .0) time (now (listed .entry))
+        ⌝ }
 {
     match enter_world(mem) {
         Entered::Refused(answer) => refusal(answer),
@@ -163,7 +175,10 @@ pub fn revoke_held(
     time: u64,
     listed: &[u64],
 ) -> Reply
-    ensures { λ r. ⌜ record { reply = r; memory = now (mem .exit) } ≡ revokeHeldOut (now (mem .entry)) s (token .0) time (now (listed .entry)) ⌝ }
+    ensures { λ r. ⌜
+        record { reply = r; memory = now (mem .exit) }
+        ≡ revokeHeldOut (now (mem .entry)) s (token .0) time (now (listed .entry))
+        ⌝ }
 {
     match enter_space(mem, s) {
         Entered::Refused(answer) => refusal(answer),
@@ -179,7 +194,10 @@ pub fn revoke_held(
 
 // Each word of `tokens` is a token; the value is how many gave 0.
 pub fn revoke_batch(mem: &mut [u64], tokens: &[u64], time: u64, listed: &[u64]) -> Reply
-    ensures { λ r. ⌜ record { reply = r; memory = now (mem .exit) } ≡ revokeBatchOut (now (mem .entry)) (now (tokens .entry)) time (now (listed .entry)) ⌝ }
+    ensures { λ r. ⌜
+        record { reply = r; memory = now (mem .exit) }
+        ≡ revokeBatchOut (now (mem .entry)) (now (tokens .entry)) time (now (listed .entry))
+        ⌝ }
 {
     match enter_world(mem) {
         Entered::Refused(answer) => refusal(answer),

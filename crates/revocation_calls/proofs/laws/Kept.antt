@@ -14,12 +14,13 @@ use Rattle.base.specs.Choose.{pick, when}
 use Rattle.registry.specs.Words.{revoked}
 use Rattle.revocation.specs.Log.{pairOf, absentOf}
 use Rattle.revocation.specs.LogLaws.{absent-exactly, absent-differ, absent-pairs}
-use Rattle.revocation_steps.specs.Revocation.{addStep, logOf, logStep, freeQueues, cascadePairs, cascadeQueues, revokeStep}
-use Rattle.revocation_steps.proofs.laws.LogSteps.{log-step-kept, add-step-kept}
+use Rattle.revocation_steps.specs.Revocation.{logOf, logStep, freeQueues, cascadePairs, cascadeQueues, revokeStep}
+use Rattle.revocation_steps.proofs.laws.LogSteps.{log-step-kept}
+use Rattle.steps.proofs.laws.RegistrySteps.{add-step-kept}
 use Rattle.revocation_steps.proofs.laws.CascadeSteps.{revoke-step-kept}
 use Rattle.steps.proofs.laws.Kept.{Kept, kept-refl, kept-trans}
 use Rattle.steps.specs.Replies.{Left, replied, done, refuse}
-use Rattle.steps.specs.Steps.{placeIn}
+use Rattle.steps.specs.Steps.{placeIn, addStep}
 use Rattle.steps.specs.declared.Reply.{Reply}
 use Rattle.table.specs.declared.Got.{Got}
 use Rattle.table.specs.declared.Got.the-variants.{Entry, Nothing}

@@ -46,17 +46,5 @@ returns-3 c =
 pub revoke-listed-spec : {M : Type 1} → statement M
 revoke-listed-spec =
     tie.close
-    (tie.spec
-    slice-read-if1
-    (λ c. search needs)
-    (λ c κs. search needs)
-    returns
-    (λ c κs. search needs)
-    queues-needed-requires
-    (λ c κs. search needs)
-    (λ c. search needs)
-    returns-2
-    revoke-places-requires
-    (λ c κs. search needs)
-    (λ c. search needs)
-    returns-3)
+    (tie.spec slice-read-if1 (λ c. search needs) (λ c κs. search needs) returns (λ c κs. search needs) queues-needed-requires
+    (λ c κs. search needs) (λ c. search needs) returns-2 revoke-places-requires (λ c κs. search needs) (λ c. search needs) returns-3)

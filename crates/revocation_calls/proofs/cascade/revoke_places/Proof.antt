@@ -9,10 +9,11 @@ use lib.ListN.{length, getD, take, drop, length-drop}
 use lib.Seq.{take-all}
 use Rattle.registry.specs.Descent.{marked}
 use Rattle.registry.specs.PlaceLists.{AllBelow}
-use Rattle.revocation_steps.specs.Revocation.{addStep, logStep, notifyAll}
-use Rattle.revocation_steps.proofs.laws.QueuesReadyKept.{queues-ready-marked, queues-ready-added, queues-ready-logged, mark-stays, add-leaves}
+use Rattle.revocation_steps.specs.Revocation.{logStep, notifyAll}
+use Rattle.steps.specs.Steps.{addStep}
+use Rattle.revocation_steps.proofs.laws.QueuesReadyKept.{queues-ready-marked, queues-ready-added, queues-ready-logged, mark-stays}
 use Rattle.steps.specs.Ready.{Ready, QueuesReady}
-use Rattle.steps.proofs.laws.ReadyKept.{Stays, Leaves}
+use Rattle.steps.proofs.laws.ReadyKept.{Stays, Leaves, add-leaves}
 use Rattle.world.specs.Numbers.{loggedOf}
 use Rattle.world.specs.Regions.{registry, onRegion}
 use Rattle.world.specs.declared.Numbers.{Numbers}
@@ -91,14 +92,5 @@ returns c =
 pub revoke-places-spec : {M : Type 1} → statement M
 revoke-places-spec =
     tie.close
-    (tie.spec
-    (λ c κs. search needs)
-    (λ c κs. search needs)
-    append-pairs-requires
-    (λ c κs. search needs)
-    (λ c. search needs)
-    (λ c. search needs)
-    (λ c. search needs)
-    notify-all-requires
-    (λ c. search needs)
-    returns)
+    (tie.spec (λ c κs. search needs) (λ c κs. search needs) append-pairs-requires (λ c κs. search needs) (λ c. search needs)
+    (λ c. search needs) (λ c. search needs) notify-all-requires (λ c. search needs) returns)

@@ -61,13 +61,5 @@ add-q c = omega (arith, c .before .if1 .taken, c .before .before .before .before
 pub all-notices-spec : {M : Type 1} → statement M
 all-notices-spec =
     tie.close
-    (tie.spec
-    Inv-loop
-    μ-loop
-    (λ c. search laws)
-    queue-length-requires
-    add-notices
-    add-q
-    (λ c. search laws)
-    (λ c. search laws)
+    (tie.spec Inv-loop μ-loop (λ c. search laws) queue-length-requires add-notices add-q (λ c. search laws) (λ c. search laws)
     (λ c. search laws))

@@ -50,15 +50,5 @@ returns-2 c =
 pub cleanup-process-notifications-spec : {M : Type 1} → statement M
 cleanup-process-notifications-spec =
     tie.close
-    (tie.spec
-    (λ c κs. search needs)
-    (λ c. search needs)
-    (λ c κs. search needs)
-    (λ c. search needs)
-    queue-for-requires
-    remove-queue-requires
-    (λ c κs. search needs)
-    (λ c. search needs)
-    returns
-    (λ c. search needs)
-    returns-2)
+    (tie.spec (λ c κs. search needs) (λ c. search needs) (λ c κs. search needs) (λ c. search needs) queue-for-requires remove-queue-requires
+    (λ c κs. search needs) (λ c. search needs) returns (λ c. search needs) returns-2)

@@ -102,21 +102,6 @@ returns-3 c =
 pub drain-notifications-spec : {M : Type 1} → statement M
 drain-notifications-spec =
     tie.close
-    (tie.spec
-    (λ c κs. search needs)
-    (λ c. search needs)
-    (λ c κs. search needs)
-    (λ c. search needs)
-    queue-for-requires
-    count-for-requires
-    mul-if1
-    (λ c κs. search needs)
-    (λ c. search needs)
-    returns
-    copy-for-requires
-    remove-queue-requires
-    (λ c. search needs)
-    returns-2
-    (λ c. search needs)
-    (λ c. search needs)
-    returns-3)
+    (tie.spec (λ c κs. search needs) (λ c. search needs) (λ c κs. search needs) (λ c. search needs) queue-for-requires count-for-requires
+    mul-if1 (λ c κs. search needs) (λ c. search needs) returns copy-for-requires remove-queue-requires (λ c. search needs) returns-2
+    (λ c. search needs) (λ c. search needs) returns-3)

@@ -47,13 +47,5 @@ returns-2 c =
 pub notification-count-spec : {M : Type 1} → statement M
 notification-count-spec =
     tie.close
-    (tie.spec
-    (λ c κs. search needs)
-    (λ c. search needs)
-    (λ c κs. search needs)
-    (λ c. search needs)
-    queue-for-requires
-    count-for-requires
-    (λ c κs. search needs)
-    returns
-    returns-2)
+    (tie.spec (λ c κs. search needs) (λ c. search needs) (λ c κs. search needs) (λ c. search needs) queue-for-requires count-for-requires
+    (λ c κs. search needs) returns returns-2)

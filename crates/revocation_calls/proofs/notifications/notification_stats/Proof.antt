@@ -35,12 +35,5 @@ returns-2 c =
 pub notification-stats-spec : {M : Type 1} → statement M
 notification-stats-spec =
     tie.close
-    (tie.spec
-    (λ c κs. search needs)
-    (λ c. search needs)
-    (λ c κs. search needs)
-    (λ c. search needs)
-    used-queues-requires
-    all-notices-requires
-    returns
-    returns-2)
+    (tie.spec (λ c κs. search needs) (λ c. search needs) (λ c κs. search needs) (λ c. search needs) used-queues-requires
+    all-notices-requires returns returns-2)

@@ -108,24 +108,6 @@ returns-5 c =
 pub notify-process-spec : {M : Type 1} → statement M
 notify-process-spec =
     tie.close
-    (tie.spec
-    (λ c κs. search needs)
-    (λ c. search needs)
-    (λ c κs. search needs)
-    (λ c. search needs)
-    (λ c κs. search needs)
-    (λ c. search needs)
-    returns
-    (λ c κs. search needs)
-    (λ c. search needs)
-    returns-2
-    has-no-place-requires
-    (λ c κs. search needs)
-    (λ c. search needs)
-    returns-3
-    notify-requires
-    (λ c κs. search needs)
-    (λ c. search needs)
-    returns-4
-    (λ c. search needs)
-    returns-5)
+    (tie.spec (λ c κs. search needs) (λ c. search needs) (λ c κs. search needs) (λ c. search needs) (λ c κs. search needs)
+    (λ c. search needs) returns (λ c κs. search needs) (λ c. search needs) returns-2 has-no-place-requires (λ c κs. search needs)
+    (λ c. search needs) returns-3 notify-requires (λ c κs. search needs) (λ c. search needs) returns-4 (λ c. search needs) returns-5)

@@ -91,17 +91,5 @@ returns-3 c =
 pub peek-notifications-spec : {M : Type 1} → statement M
 peek-notifications-spec =
     tie.close
-    (tie.spec
-    (λ c κs. search needs)
-    (λ c. search needs)
-    (λ c κs. search needs)
-    (λ c. search needs)
-    queue-for-requires
-    count-for-requires
-    mul-if1
-    (λ c κs. search needs)
-    returns
-    copy-for-requires
-    returns-2
-    (λ c. search needs)
-    returns-3)
+    (tie.spec (λ c κs. search needs) (λ c. search needs) (λ c κs. search needs) (λ c. search needs) queue-for-requires count-for-requires
+    mul-if1 (λ c κs. search needs) returns copy-for-requires returns-2 (λ c. search needs) returns-3)

@@ -65,14 +65,5 @@ returns-3 c =
 pub write-reason-spec : {M : Type 1} → statement M
 write-reason-spec =
     tie.close
-    (tie.spec
-    (λ c κs. search needs)
-    returns
-    (λ c κs. search needs)
-    (λ c κs. search needs)
-    (λ c κs. search needs)
-    returns-2
-    write-reason-requires
-    (λ c κs. search needs)
-    (λ c. search needs)
-    returns-3)
+    (tie.spec (λ c κs. search needs) returns (λ c κs. search needs) (λ c κs. search needs) (λ c κs. search needs) returns-2
+    write-reason-requires (λ c κs. search needs) (λ c. search needs) returns-3)

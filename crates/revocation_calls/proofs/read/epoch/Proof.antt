@@ -27,12 +27,5 @@ returns-2 c =
 pub epoch-spec : {M : Type 1} → statement M
 epoch-spec =
     tie.close
-    (tie.spec
-    (λ c κs. search needs)
-    (λ c. search needs)
-    (λ c κs. search needs)
-    (λ c. search needs)
-    word-6
-    (λ c κs. search needs)
-    returns
+    (tie.spec (λ c κs. search needs) (λ c. search needs) (λ c κs. search needs) (λ c. search needs) word-6 (λ c κs. search needs) returns
     returns-2)

@@ -89,18 +89,5 @@ returns-4 c =
 pub get-derivation-tree-spec : {M : Type 1} → statement M
 get-derivation-tree-spec =
     tie.close
-    (tie.spec
-    (λ c κs. search needs)
-    (λ c. search needs)
-    (λ c κs. search needs)
-    (λ c. search needs)
-    (λ c κs. search needs)
-    returns
-    place-of-requires
-    word-11
-    list-under-requires
-    (λ c. search needs)
-    returns-2
-    (λ c κs. search needs)
-    returns-3
-    returns-4)
+    (tie.spec (λ c κs. search needs) (λ c. search needs) (λ c κs. search needs) (λ c. search needs) (λ c κs. search needs) returns
+    place-of-requires word-11 list-under-requires (λ c. search needs) returns-2 (λ c κs. search needs) returns-3 returns-4)

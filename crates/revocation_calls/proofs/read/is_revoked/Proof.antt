@@ -56,14 +56,5 @@ returns-3 c =
 pub is-revoked-spec : {M : Type 1} → statement M
 is-revoked-spec =
     tie.close
-    (tie.spec
-    (λ c κs. search needs)
-    (λ c. search needs)
-    (λ c κs. search needs)
-    (λ c. search needs)
-    has-pair-requires
-    (λ c κs. search needs)
-    returns
-    (λ c κs. search needs)
-    returns-2
-    returns-3)
+    (tie.spec (λ c κs. search needs) (λ c. search needs) (λ c κs. search needs) (λ c. search needs) has-pair-requires (λ c κs. search needs)
+    returns (λ c κs. search needs) returns-2 returns-3)

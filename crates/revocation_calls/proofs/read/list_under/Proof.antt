@@ -148,17 +148,5 @@ returns-2 c =
 pub list-under-spec : {M : Type 1} → statement M
 list-under-spec =
     tie.close
-    (tie.spec
-    (λ c. search needs)
-    descend-requires
-    sub-if1
-    (λ c κs. search needs)
-    returns
-    sub-ids-at
-    part-ids-at-start
-    (λ c. search needs)
-    ids-at-requires
-    sub-done
-    (λ c κs. search needs)
-    (λ c. search needs)
-    returns-2)
+    (tie.spec (λ c. search needs) descend-requires sub-if1 (λ c κs. search needs) returns sub-ids-at part-ids-at-start (λ c. search needs)
+    ids-at-requires sub-done (λ c κs. search needs) (λ c. search needs) returns-2)

@@ -10,7 +10,8 @@ use lib.Seq.{length-take-le}
 use Rattle.answers.specs.declared.Answer.the-variants.{LogFull}
 use Rattle.base.specs.Choose.{when-yes, when-no}
 use Rattle.revocation.specs.Log.{pairOf, absentOf}
-use Rattle.revocation_steps.specs.Revocation.{addStep, logOf, logStep}
+use Rattle.revocation_steps.specs.Revocation.{logOf, logStep}
+use Rattle.steps.specs.Steps.{addStep}
 use Rattle.steps.proofs.Leaving.{left-is}
 use Rattle.steps.proofs.laws.Ready.{ready-at}
 use Rattle.steps.specs.Replies.{done, refuse}
@@ -90,18 +91,6 @@ returns-2 c =
 pub list-token-spec : {M : Type 1} → statement M
 list-token-spec =
     tie.close
-    (tie.spec
-    (λ c. search needs)
-    keep-absent-requires
-    slice-read-if1
-    (λ c. search needs)
-    (λ c κs. search needs)
-    (λ c. search needs)
-    returns
-    (λ c. search needs)
-    slice-aggregate-append-pairs
-    append-pairs-requires
-    add-requires
-    (λ c κs. search needs)
-    (λ c. search needs)
+    (tie.spec (λ c. search needs) keep-absent-requires slice-read-if1 (λ c. search needs) (λ c κs. search needs) (λ c. search needs) returns
+    (λ c. search needs) slice-aggregate-append-pairs append-pairs-requires add-requires (λ c κs. search needs) (λ c. search needs)
     returns-2)

@@ -102,22 +102,6 @@ returns-4 c =
 pub revoke-spec : {M : Type 1} → statement M
 revoke-spec =
     tie.close
-    (tie.spec
-    (λ c κs. search needs)
-    (λ c. search needs)
-    (λ c κs. search needs)
-    (λ c. search needs)
-    (λ c κs. search needs)
-    (λ c. search needs)
-    returns
-    (λ c κs. search needs)
-    place-of-requires
-    slice-read-if2
-    (λ c κs. search needs)
-    (λ c. search needs)
-    returns-2
-    revoke-at-requires
-    (λ c. search needs)
-    returns-3
-    (λ c. search needs)
-    returns-4)
+    (tie.spec (λ c κs. search needs) (λ c. search needs) (λ c κs. search needs) (λ c. search needs) (λ c κs. search needs)
+    (λ c. search needs) returns (λ c κs. search needs) place-of-requires slice-read-if2 (λ c κs. search needs) (λ c. search needs) returns-2
+    revoke-at-requires (λ c. search needs) returns-3 (λ c. search needs) returns-4)

@@ -62,16 +62,5 @@ returns-3 c =
 pub revoke-capability-spec : {M : Type 1} → statement M
 revoke-capability-spec =
     tie.close
-    (tie.spec
-    (λ c κs. search needs)
-    (λ c. search needs)
-    (λ c κs. search needs)
-    (λ c. search needs)
-    (λ c κs. search needs)
-    (λ c. search needs)
-    returns
-    revoke-token-requires
-    (λ c. search needs)
-    returns-2
-    (λ c. search needs)
-    returns-3)
+    (tie.spec (λ c κs. search needs) (λ c. search needs) (λ c κs. search needs) (λ c. search needs) (λ c κs. search needs)
+    (λ c. search needs) returns revoke-token-requires (λ c. search needs) returns-2 (λ c. search needs) returns-3)

@@ -89,17 +89,5 @@ returns-3 c =
 pub revoke-held-spec : {M : Type 1} → statement M
 revoke-held-spec =
     tie.close
-    (tie.spec
-    (λ c κs. search needs)
-    (λ c. search needs)
-    (λ c κs. search needs)
-    (λ c. search needs)
-    (λ c κs. search needs)
-    (λ c. search needs)
-    returns
-    lookup-requires
-    revoke-looked-up-requires
-    (λ c. search needs)
-    returns-2
-    (λ c. search needs)
-    returns-3)
+    (tie.spec (λ c κs. search needs) (λ c. search needs) (λ c κs. search needs) (λ c. search needs) (λ c κs. search needs)
+    (λ c. search needs) returns lookup-requires revoke-looked-up-requires (λ c. search needs) returns-2 (λ c. search needs) returns-3)

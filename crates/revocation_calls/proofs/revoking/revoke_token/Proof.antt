@@ -58,13 +58,5 @@ returns-2 c =
 pub revoke-token-spec : {M : Type 1} → statement M
 revoke-token-spec =
     tie.close
-    (tie.spec
-    (λ c κs. search needs)
-    place-of-requires
-    slice-read-if1
-    (λ c κs. search needs)
-    (λ c. search needs)
-    returns
-    (λ c κs. search needs)
-    (λ c. search needs)
-    returns-2)
+    (tie.spec (λ c κs. search needs) place-of-requires slice-read-if1 (λ c κs. search needs) (λ c. search needs) returns
+    (λ c κs. search needs) (λ c. search needs) returns-2)

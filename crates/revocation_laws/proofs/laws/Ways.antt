@@ -15,10 +15,10 @@ use Rattle.base.specs.Below.{one}
 use Rattle.base.specs.Choose.{when, when-no}
 use Rattle.registry.specs.Words.{revoked}
 use Rattle.revocation.specs.Log.{pairOf, absentOf}
-use Rattle.revocation_steps.specs.Revocation.{addStep, logOf, logStep, freeQueues, cascadePairs, cascadeQueues, revokeStep}
+use Rattle.revocation_steps.specs.Revocation.{logOf, logStep, freeQueues, cascadePairs, cascadeQueues, revokeStep}
 use Rattle.space.specs.Lookup.{lookedUp}
 use Rattle.steps.specs.Replies.{Left, replied, done, refuse}
-use Rattle.steps.specs.Steps.{spaceOf, lookupStep, placeIn}
+use Rattle.steps.specs.Steps.{spaceOf, lookupStep, placeIn, addStep}
 use Rattle.steps.specs.declared.Reply.{Reply}
 use Rattle.steps.proofs.laws.Cases.{pick-by-cases, when-by-cases, unless-below}
 use Rattle.steps.proofs.laws.Entered.{world-by-cases, space-by-cases}

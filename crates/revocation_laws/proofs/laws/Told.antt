@@ -1,22 +1,26 @@
--- 26 is answered exactly on memory that is not sound, 20 exactly on a sound one for a space number of S or more. RevokeTold.antt,
--- HeldTold.antt and ListsTold.antt say of each other answer when it is given.
+-- 26 is answered exactly on memory that is not sound, 20 exactly on a sound one for a space number of S or more; and 0 exactly on a sound
+-- one by the calls with no refusal of their own. RevokeTold.antt, HeldTold.antt and ListsTold.antt say of each other answer when it is
+-- given.
 use mathlib.Core.Bool.{not}
 use mathlib.Core.List.{List}
 use mathlib.Core.Logic.{_↔_}
-use mathlib.Core.Path.{_≡_, refl}
+use mathlib.Core.Path.{_≡_, refl, ap}
 use Prim.Native.Nat.{ℕ, _^_}
 use native.Mathlib.Omega.{arith}
 use lib.Dec.{leb, ltb}
 use lib.ListN.{length}
+use Rattle.answers.specs.Number.{numberOf}
 use Rattle.answers.specs.declared.Answer.{Answer}
-use Rattle.answers.specs.declared.Answer.the-variants.{InvalidCapability, InsufficientRights, NotFound, BadField, PidTableFull, BadWorld}
+use Rattle.answers.specs.declared.Answer.the-variants.{Done, InvalidCapability, InsufficientRights, NotFound, BadField, PidTableFull, BadWorld}
 use Rattle.base.specs.Choose.{both, when}
 use Rattle.revocation_steps.specs.Revocation.{queueFor, freeQueue}
 use Rattle.space.specs.Lookup.{lookedUp}
+use Rattle.steps.specs.Enter.{onWorld}
 use Rattle.steps.specs.Replies.{Left, Listed, refuse}
 use Rattle.steps.specs.Steps.{spaceOf, lookupStep, placeIn}
 use Rattle.steps.specs.declared.Reply.{Reply}
-use Rattle.steps.proofs.laws.Cases.{when-by-cases}
+use Rattle.steps.proofs.laws.Cases.{when-by-cases, given}
+use Rattle.steps.proofs.laws.Entered.{world-by-cases}
 use Rattle.steps.proofs.laws.Told.{Told, Inner, told, world-told, inner, inner-0}
 use Rattle.table.specs.declared.Got.{Got}
 use Rattle.table.specs.declared.Got.the-variants.{Entry, Nothing}
@@ -25,10 +29,10 @@ use Rattle.token.specs.Token.{idOf}
 use Rattle.world.specs.Numbers.{numbersOf, registeredOf}
 use Rattle.world.specs.Sound.{Sound}
 use Rattle.world.specs.declared.Numbers.{Numbers}
 use Rattle.revocation_calls.specs.Calls.{revokeOut, revokeCapabilityOut, revokeHeldOut, revokeBatchOut, isRevokedOut, epochOut, listedIn, descendants, descendantsOut, notifyOut, noticesFor, peekOut, drainOut, notificationCountOut, cleanupOut, notificationStatsOut}
 use Rattle.revocation_calls.specs.Revoking.{revokingHeld}
 use Rattle.revocation_calls.specs.declared.QueuesReply.{QueuesReply}
-use Rattle.revocation_calls.proofs.laws.Ways.{Own, own-not, revoking-own, revoking-token-own, each-done}
+use Rattle.revocation_laws.proofs.laws.Ways.{Own, own-not, revoking-own, revoking-token-own, each-done}
 
 -- ---- no answer of a call's own is either
 
@@ -149,3 +153,35 @@ module _ (mem : List ℕ) where
   pub notification-stats-entered : (notificationStatsOut mem .answer ≡ BadWorld) ↔ (¬ Sound mem)
   unfolding notificationStatsOut
   notification-stats-entered = world-told (λ (r : QueuesReply). r .answer) _ mem _ (λ a. refl) inner-0
+
+-- ---- 0 of the calls with no refusal of their own
+
+always-0 :
+    {A : Type 0} (answerOf : A → Answer) (refusing : Answer → A) (mem : List ℕ) (call : Numbers → A)
+    → answerOf (refusing BadWorld) ≡ BadWorld → answerOf (call (numbersOf mem)) ≡ Done
+    → (answerOf (onWorld refusing mem call) ≡ Done) ↔ Sound mem
+always-0 answerOf refusing mem call says made =
+    world-by-cases (λ r. (answerOf r ≡ Done) ↔ Sound mem) refusing mem call
+    (λ bad. (λ e. absurd (omega (arith, ap numberOf e, ap numberOf says)), λ sound. absurd (bad sound)))
+    (given made)
+
+module _ (mem : List ℕ) where
+  pub is-revoked-told-0 : (token : ℕ) → (isRevokedOut mem token .answer ≡ Done) ↔ Sound mem
+  unfolding isRevokedOut
+  is-revoked-told-0 token = always-0 (λ (r : Reply). r .answer) _ mem _ refl refl
+
+  pub epoch-told-0 : (epochOut mem .answer ≡ Done) ↔ Sound mem
+  unfolding epochOut
+  epoch-told-0 = always-0 (λ (r : Reply). r .answer) _ mem _ refl refl
+
+  pub notification-count-told-0 : (pid : ℕ) → (notificationCountOut mem pid .answer ≡ Done) ↔ Sound mem
+  unfolding notificationCountOut
+  notification-count-told-0 pid = always-0 (λ (r : Reply). r .answer) _ mem _ refl refl
+
+  pub cleanup-told-0 : (pid : ℕ) → (cleanupOut mem pid .reply .answer ≡ Done) ↔ Sound mem
+  unfolding cleanupOut
+  cleanup-told-0 pid = always-0 answerOf _ mem _ refl refl
+
+  pub notification-stats-told-0 : (notificationStatsOut mem .answer ≡ Done) ↔ Sound mem
+  unfolding notificationStatsOut
+  notification-stats-told-0 = always-0 (λ (r : QueuesReply). r .answer) _ mem _ refl refl

@@ -3,7 +3,7 @@
 use mathlib.Core.Bool.{true}
 use mathlib.Core.List.{List}
 use mathlib.Core.Logic.{_↔_, _≢_, _⊎_, inl, inr, ⊎-elim}
-use mathlib.Core.Path.{_≡_, refl, ap, subst}
+use mathlib.Core.Path.{_≡_, refl, ap}
 use Prim.Native.Nat.{ℕ, _+_, _%_, _^_, _<_}
 use native.Mathlib.Omega.{arith}
 use lib.ListN.{length, getD, take}
@@ -27,11 +27,11 @@ use Rattle.world.specs.Numbers.{numbersOf, epochOf, registeredOf, recycledOf, l
 use Rattle.world.specs.Regions.{log, view}
 use Rattle.world.specs.Sound.{ids, states, links, recycled, logPairs, SoundAt, Sound}
 use Rattle.world.specs.declared.Numbers.{Numbers}
 use Rattle.revocation_calls.specs.Calls.{revokeOut, revokeCapabilityOut, revokeHeldOut}
 use Rattle.revocation_calls.specs.Revoking.{revoking}
-use Rattle.revocation_calls.proofs.laws.Counted.{same-registered, same-registry}
-use Rattle.revocation_calls.proofs.laws.Given.{Given, revoke-given, revoke-capability-given, held-given}
-use Rattle.revocation_calls.proofs.laws.Ways.{revoking-by-cases, revoking-token-by-cases}
+use Rattle.revocation_laws.proofs.laws.Counted.{same-registry}
+use Rattle.revocation_laws.proofs.laws.Given.{Given, revoke-given, revoke-capability-given, held-given}
+use Rattle.revocation_laws.proofs.laws.Ways.{revoking-by-cases}
 
 -- Place k is registered, and r or below it.
 abbrev pub Descends : Numbers → List ℕ → ℕ → ℕ → Type 0
@@ -188,15 +188,18 @@ module _ (mem : List ℕ) (token time : ℕ) (listed : List ℕ) where
         (s : ℕ) → revokeHeldOut mem s token time listed .reply .answer ≡ Done
         → Revokes (numbersOf mem) place (lookupStep (numbersOf mem) s token mem) (revokeHeldOut mem s token time listed .memory)
     held-means s =
-        held-given mem token time listed (λ after. Revokes numbers place (lookupStep numbers s token mem) after) s
-        (λ sound there.
-        let looked : List ℕ = lookupStep numbers s token mem in
-        let count = same-registered numbers mem sound s there token in
-        let words = same-registry numbers mem sound s there token in
-        let same : placeIn numbers looked (idOf token) ≡ place = rw (count, words) refl in
-        let sound′ = lookup-step-kept numbers mem sound s there token .sound in
-        revoking-token-by-cases numbers looked (Given (Revokes numbers place looked)) token time listed
-        (λ inside.
-        subst (λ k. Given (Revokes numbers k looked) (revoking numbers (placeIn numbers looked (idOf token)) time listed looked)) same
-        (revoking-means numbers looked sound′ _ inside time listed))
-        (λ outside. absurd (omega (arith, same, count))))
+        held-given mem token time listed (Revokes numbers place (lookupStep numbers s token mem)) s inside
+        (λ sound there inside.
+        let kept = lookup-step-kept numbers mem sound s there token in
+        revoking-means numbers (lookupStep numbers s token mem) (kept .sound) place inside time listed)
+
+    pub held-counts :
+        (s : ℕ) → revokeHeldOut mem s token time listed .reply .answer ≡ Done → revoked (states (numbersOf mem) mem place) ≡ 0
+        → Counts (numbersOf mem) place (lookupStep (numbersOf mem) s token mem) (revokeHeldOut mem s token time listed .memory)
+    held-counts s =
+        held-given mem token time listed
+        (λ after. revoked (states numbers mem place) ≡ 0 → Counts numbers place (lookupStep numbers s token mem) after) s inside
+        (λ sound there inside e un.
+        let kept = lookup-step-kept numbers mem sound s there token in
+        revoking-counts numbers (lookupStep numbers s token mem) (kept .sound) place inside time listed e
+        (rw (same-registry numbers mem sound s there token) un))

@@ -1,5 +1,5 @@
 -- Document 01, "Revocation": unregistered, through `revoke_capability`: the token's pair joins the log if absent, epoch plus one, 0.
--- Nothing else changes.
+-- Nothing else changes. A held revoke comes to it by way of a counted lookup.
 use mathlib.Core.Bool.{true}
 use mathlib.Core.List.{List, [], _∷_}
 use mathlib.Core.Logic.{_↔_, _≢_, _⊎_, inl, inr, ⊎-elim}
@@ -12,25 +12,26 @@ use Rattle.answers.specs.declared.Answer.the-variants.{Done}
 use Rattle.base.specs.Distinct.{Differ}
 use Rattle.revocation.specs.Log.{pairOf, logHas, appended}
 use Rattle.revocation.specs.LogLaws.{OneOf, take-appended, has-joined}
-use Rattle.revocation_steps.specs.Revocation.{addStep, logStep}
+use Rattle.revocation_steps.specs.Revocation.{logStep}
 use Rattle.revocation_steps.proofs.laws.LogSteps.{log-step-word, log-step-holdings, log-step-queue, log-step-logged, log-step-log}
 use Rattle.revocation_steps.proofs.laws.SameHoldings.{SameHoldings}
 use Rattle.steps.specs.Replies.{Left}
-use Rattle.steps.specs.Steps.{spaceOf, placeIn}
+use Rattle.steps.specs.Steps.{spaceOf, lookupStep, placeIn, addStep}
 use Rattle.steps.specs.declared.Reply.{Reply}
 use Rattle.steps.proofs.laws.Kept.{Kept}
 use Rattle.steps.proofs.laws.RegistryChanged.{RegistryChanged, word-changed}
+use Rattle.steps.proofs.laws.SpaceSteps.{lookup-step-kept}
 use Rattle.token.specs.Token.{idOf, generationOf}
 use Rattle.world.specs.Numbers.{numbersOf, epochOf, registeredOf, loggedOf}
 use Rattle.world.specs.Regions.{registry, log, queue, view}
 use Rattle.world.specs.Sound.{logPairs, SoundAt}
 use Rattle.world.specs.Views.{length-view}
 use Rattle.world.specs.declared.Numbers.{Numbers}
-use Rattle.revocation_calls.specs.Calls.{revokeCapabilityOut}
+use Rattle.revocation_calls.specs.Calls.{revokeCapabilityOut, revokeHeldOut}
 use Rattle.revocation_calls.specs.Revoking.{listing}
-use Rattle.revocation_calls.proofs.laws.Given.{revoke-capability-listed}
+use Rattle.revocation_laws.proofs.laws.Given.{revoke-capability-listed, held-listed}
 use Rattle.revocation_calls.proofs.laws.Kept.{listing-kept}
-use Rattle.revocation_calls.proofs.laws.Ways.{newPair, pairsWith, listing-by-cases}
+use Rattle.revocation_laws.proofs.laws.Ways.{newPair, pairsWith, listing-by-cases}
 
 pub record OnlyLogged (d : Numbers) (pair : ℕ) (mem after : List ℕ) : Type 0 where
   pub same-registry : view d registry after ≡ view d registry mem
@@ -117,7 +118,7 @@ module _ (d : Numbers) (mem : List ℕ) (sound : SoundAt d mem) (token : ℕ) wh
       (λ fits e. logged-only fits)
       e (listing-kept d mem sound token)
 
--- ---- the call
+-- ---- the calls
 
 pub revoke-capability-unregistered :
     (mem : List ℕ) (token time : ℕ) (listed : List ℕ) → registeredOf mem ≤ placeIn (numbersOf mem) mem (idOf token)
@@ -126,3 +127,15 @@ pub revoke-capability-unregistered :
 revoke-capability-unregistered mem token time listed outside =
     revoke-capability-listed mem token time listed (OnlyLogged (numbersOf mem) (pairOf (idOf token) (generationOf token)) mem) outside
     (λ sound. listing-means (numbersOf mem) mem sound token)
+
+-- By a token that a space holds: the same, from the memory with the lookup counted.
+pub held-unregistered :
+    (mem : List ℕ) (token time : ℕ) (listed : List ℕ) → registeredOf mem ≤ placeIn (numbersOf mem) mem (idOf token)
+    → (s : ℕ) → revokeHeldOut mem s token time listed .reply .answer ≡ Done
+    → OnlyLogged (numbersOf mem) (pairOf (idOf token) (generationOf token)) (lookupStep (numbersOf mem) s token mem)
+    (revokeHeldOut mem s token time listed .memory)
+held-unregistered mem token time listed outside s =
+    let d : Numbers = numbersOf mem in
+    let looked : List ℕ = lookupStep d s token mem in
+    held-listed mem token time listed (OnlyLogged d (pairOf (idOf token) (generationOf token)) looked) s outside
+    (λ sound there. listing-means d looked (lookup-step-kept d mem sound s there token .sound) token)

@@ -27,8 +27,8 @@ use Rattle.world.specs.Numbers.{numbersOf, registeredOf}
 use Rattle.world.specs.Regions.{registry, view}
 use Rattle.world.specs.Sound.{ids, links, SoundAt}
 use Rattle.world.specs.declared.Numbers.{Numbers}
 use Rattle.revocation_calls.specs.Calls.{listedIn, descendants, descendantsOut}
-use Rattle.revocation_calls.proofs.laws.Meaning.{Descends}
+use Rattle.revocation_laws.proofs.laws.Meaning.{Descends}
 
 -- x is a child of y.
 abbrev ChildOf : Numbers → List ℕ → ℕ → ℕ → Type 0

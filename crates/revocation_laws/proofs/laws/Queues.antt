@@ -34,13 +34,13 @@ use Rattle.world.specs.Numbers.{numbersOf, registeredOf}
 use Rattle.world.specs.Regions.{registry, queue, view}
 use Rattle.world.specs.Sound.{lengths, SoundAt, Sound}
 use Rattle.world.specs.declared.Numbers.{Numbers}
 use Rattle.revocation_calls.specs.Calls.{revokeOut, revokeCapabilityOut, revokeHeldOut, notifyOut, countFor, peekOut, without, drainOut, cleanupOut}
 use Rattle.revocation_calls.specs.Revoking.{revoking}
-use Rattle.revocation_calls.proofs.laws.Counted.{same-registered, same-registry, same-queues}
-use Rattle.revocation_calls.proofs.laws.Given.{Given, revoke-given, revoke-capability-given, held-given}
-use Rattle.revocation_calls.proofs.laws.NoticeWays.{notify-by-cases, peek-by-cases, drain-by-cases}
-use Rattle.revocation_calls.proofs.laws.Unregistered.{revoke-capability-unregistered}
-use Rattle.revocation_calls.proofs.laws.Ways.{revoking-by-cases, revoking-token-by-cases}
+use Rattle.revocation_laws.proofs.laws.Counted.{same-registered, same-registry, same-queues}
+use Rattle.revocation_laws.proofs.laws.Given.{revoke-given, revoke-capability-given, held-given, held-done}
+use Rattle.revocation_laws.proofs.laws.NoticeWays.{notify-by-cases, peek-by-cases, drain-by-cases}
+use Rattle.revocation_laws.proofs.laws.Unregistered.{revoke-capability-unregistered, held-unregistered}
+use Rattle.revocation_laws.proofs.laws.Ways.{revoking-by-cases}
 
 -- ---- a notice for a pid
 
@@ -117,24 +117,28 @@ module _ (mem : List ℕ) (token time : ℕ) (listed : List ℕ) (pid : ℕ) whe
       → noticesOf (numbersOf mem) (revokeHeldOut mem s token time listed .memory) pid
       ≡ noticesAfter (numbersOf mem) mem place time listed pid
   held-notices inside s =
-      held-given mem token time listed (λ after. noticesOf d after pid ≡ noticesAfter d mem place time listed pid) s
-      (λ sound there.
+      held-given mem token time listed (λ after. noticesOf d after pid ≡ noticesAfter d mem place time listed pid) s inside
+      (λ sound there inside e.
       let looked : List ℕ = lookupStep d s token mem in
-      let r : ℕ = placeIn d looked (idOf token) in
       let count = same-registered d mem sound s there token in
       let words = same-registry d mem sound s there token in
       let notices = same-notices d mem looked (same-queues d mem sound s there token) pid in
-      let same : noticesAfter d looked r time listed pid ≡ noticesAfter d mem place time listed pid = rw (notices, count, words) refl in
-      let same-place : r ≡ place = rw (count, words) refl in
-      revoking-token-by-cases d looked (Given (λ after. noticesOf d after pid ≡ noticesAfter d mem place time listed pid)) token time listed
-      (λ inside e. revoking-notices d looked (lookup-step-kept d mem sound s there token .sound) r inside time listed pid e ∙ same)
-      (λ outside. absurd (omega (arith, count, same-place))))
+      let same : noticesAfter d looked place time listed pid ≡ noticesAfter d mem place time listed pid = rw (notices, count, words) refl in
+      revoking-notices d looked (lookup-step-kept d mem sound s there token .sound) place inside time listed pid e ∙ same)
 
   pub unregistered-notices :
       registeredOf mem ≤ placeIn (numbersOf mem) mem (idOf token) → revokeCapabilityOut mem token time listed .reply .answer ≡ Done
       → noticesOf (numbersOf mem) (revokeCapabilityOut mem token time listed .memory) pid ≡ noticesOf (numbersOf mem) mem pid
   unregistered-notices outside e =
       same-notices d mem _ (revoke-capability-unregistered mem token time listed outside e .same-queue) pid
+
+  pub held-unregistered-notices :
+      registeredOf mem ≤ placeIn (numbersOf mem) mem (idOf token) → (s : ℕ) → revokeHeldOut mem s token time listed .reply .answer ≡ Done
+      → noticesOf (numbersOf mem) (revokeHeldOut mem s token time listed .memory) pid ≡ noticesOf (numbersOf mem) mem pid
+  held-unregistered-notices outside s e =
+      let (sound, there) = held-done mem token time listed s e in
+      same-notices d (lookupStep d s token mem) _ (held-unregistered mem token time listed outside s e .same-queue) pid
+      ∙ same-notices d mem _ (same-queues d mem sound s there token) pid
 
 -- ---- drain, cleanup and peek
 
@@ -152,7 +156,7 @@ pub record Listing (mem : List ℕ) (pid : ℕ) (area : List ℕ) (l : Listed) :
   pub words : l .area ≡ written (noticesOf (numbersOf mem) mem pid) area
   pub count : 3 * l .reply .value ≡ length (noticesOf (numbersOf mem) mem pid)
 
-listed-count :
+pub listed-count :
     (mem : List ℕ) (pid : ℕ)
     → 3 * countFor (numbersOf mem) mem (queueFor (numbersOf mem) mem pid) ≡ length (noticesOf (numbersOf mem) mem pid)
 listed-count mem pid = go (ltb q (numbersOf mem .queues))

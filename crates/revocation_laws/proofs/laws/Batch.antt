@@ -14,10 +14,10 @@ use Rattle.steps.proofs.laws.Kept.{Kept, kept-sound}
 use Rattle.world.specs.Numbers.{numbersOf}
 use Rattle.world.specs.Sound.{Sound}
 use Rattle.world.specs.declared.Numbers.{Numbers}
 use Rattle.revocation_calls.specs.Calls.{revokeCapabilityOut, revokeBatchOut}
 use Rattle.revocation_calls.specs.Revoking.{revokingToken, revokingEach}
 use Rattle.revocation_calls.proofs.laws.Kept.{revoking-token-kept}
-use Rattle.revocation_calls.proofs.laws.Ways.{revoke-capability-called, batch-called}
+use Rattle.revocation_laws.proofs.laws.Ways.{revoke-capability-called, batch-called}
 
 -- 1 for an answer 0.
 abbrev pub gave0 : Left Reply → ℕ

@@ -10,7 +10,7 @@ use borrow.Author.Tests.{not-true, not-false}
 use lib.ListN.{length}
 use Rattle.answers.specs.Number.{numberOf}
 use Rattle.answers.specs.declared.Answer.{Answer}
-use Rattle.answers.specs.declared.Answer.the-variants.{Done, InsufficientRights, NotFound, BadField}
+use Rattle.answers.specs.declared.Answer.the-variants.{Done, InsufficientRights, NotFound, BadField, LogFull, PidTableFull}
 use Rattle.space.specs.Lookup.{lookedUp}
 use Rattle.steps.specs.Replies.{Left}
 use Rattle.steps.specs.Steps.{spaceOf, lookupStep}
@@ -23,11 +23,11 @@ use Rattle.token.specs.Rights.{holds}
 use Rattle.world.specs.Numbers.{numbersOf}
 use Rattle.world.specs.Sound.{Sound}
 use Rattle.world.specs.declared.Numbers.{Numbers}
 use Rattle.revocation_calls.specs.Calls.{revokeCapabilityOut, revokeHeldOut, revokeBatchOut}
-use Rattle.revocation_calls.specs.Revoking.{revokingHeld}
-use Rattle.revocation_calls.proofs.laws.Counted.{counted-answers}
-use Rattle.revocation_calls.proofs.laws.RevokeTold.{not-own}
-use Rattle.revocation_calls.proofs.laws.Ways.{revoking-token-own, each-done, held-by-cases, batch-by-cases, revoke-capability-called, held-with-revoke}
+use Rattle.revocation_calls.specs.Revoking.{revokingToken, revokingHeld}
+use Rattle.revocation_laws.proofs.laws.Counted.{counted-answers}
+use Rattle.revocation_laws.proofs.laws.RevokeTold.{not-own}
+use Rattle.revocation_laws.proofs.laws.Ways.{Own, own-not, revoking-token-own, each-done, held-by-cases, batch-by-cases, revoke-capability-called, held-with-revoke}
 
 -- ---- a held revoke
 
@@ -83,6 +83,13 @@ module _ (mem : List ℕ) (sound : Sound mem) (s : ℕ) (there : s < numbersOf m
   one-entry : (g : Got) (e e′ : CapabilityEntry) → g ≡ Entry e → g ≡ Entry e′ → e ≡ e′
   one-entry g e e′ is is′ = cc
 
+  lacks-it :
+      (e e′ : CapabilityEntry) → got ≡ Entry e → got ≡ Entry e′ → holds (e .rights .0) (2 ^ 4) ≡ false
+      → holds (e′ .rights .0) (2 ^ 4) ≡ true → ⊥
+  lacks-it e e′ is is′ lacks has =
+      let same : e′ ≡ e = one-entry got e′ e is′ is in
+      true≢false (sym has ∙ ap (λ (x : CapabilityEntry). holds (x .rights .0) (2 ^ 4)) same ∙ lacks)
+
   module _ (few : length listed ≤ 32) where
     pub held-told-8 :
         (revokeHeldOut mem s token time listed .reply .answer ≡ NotFound)
@@ -97,9 +104,7 @@ module _ (mem : List ℕ) (sound : Sound mem) (s : ℕ) (there : s < numbersOf m
         by-holding InsufficientRights Without (omega arith) (omega arith) (λ many. absurd (omega arith))
         (λ few none. not-given NotFound InsufficientRights (λ e. omega arith) (λ (e, (is, lacks)). held-once got e is none))
         (λ few without. given refl without)
-        (λ few e is with′ (e′, (is′, lacks)).
-        let same : e ≡ e′ = one-entry got e e′ is is′ in
-        true≢false (sym with′ ∙ ap (λ (x : CapabilityEntry). holds (x .rights .0) (2 ^ 4)) same ∙ lacks))
+        (λ few e is with′ (e′, (is′, lacks)). lacks-it e′ e is′ is lacks with′)
 
     -- Held with REVOKE, it answers as it would by the token alone.
     pub held-answers :
@@ -108,6 +113,54 @@ module _ (mem : List ℕ) (sound : Sound mem) (s : ℕ) (there : s < numbersOf m
     held-answers e is with′ =
         rw (held-with-revoke mem sound time listed few s token there e is with′, revoke-capability-called mem sound time listed few token)
         (ap (λ (r : Reply). r .answer) (counted-answers d mem sound s there token token time listed))
+
+    -- So 0, 24 and 25 are given exactly where it is held with REVOKE and they would be given by the token alone.
+    abbrev pub With : Type 0
+    With = (e : CapabilityEntry) × ((got ≡ Entry e) × (holds (e .rights .0) (2 ^ 4) ≡ true))
+
+    abbrev ByToken : Answer → Type 0
+    ByToken a = revokeCapabilityOut mem token time listed .reply .answer ≡ a
+
+    held-told-own : (a : Answer) → Own a → (revokeHeldOut mem s token time listed .reply .answer ≡ a) ↔ (With × ByToken a)
+    held-told-own a own =
+        held-by-cases mem time listed Exactly (λ bad. absurd (bad sound)) s token (λ sound far. absurd (omega arith))
+        (λ sound there many. absurd (omega arith))
+        (λ sound there few. go got refl)
+      where
+        Exactly : Left Reply → Type 0
+        Exactly out = (out .reply .answer ≡ a) ↔ (With × ByToken a)
+
+        go : (g : Got) → got ≡ g → Exactly (outFor g)
+        go Nothing none =
+            not-given NotFound a (λ e. own-not a own 8 (λ z. omega arith) (λ z. omega arith) (λ z. omega arith) (sym e))
+            (λ ((e, (is, has)), gives). held-once got e is none)
+        go (Entry e) is =
+            when-by-cases Exactly _ _ (not (holds (e .rights .0) (2 ^ 4)))
+            (λ h.
+            not-given InsufficientRights a
+            (λ e. own-not a own 2 (λ z. omega arith) (λ z. omega arith) (λ z. omega arith) (sym e))
+            (λ ((e′, (is′, has)), gives). lacks-it e e′ is is′ (not-true _ h) has))
+            (λ h. (λ gives. ((e, (is, not-false _ h)), sym by-token ∙ gives), λ (held, gives). by-token ∙ gives))
+          where
+            by-token : revokingToken d token time listed after .reply .answer ≡ revokeCapabilityOut mem token time listed .reply .answer
+            by-token =
+                rw (revoke-capability-called mem sound time listed few token)
+                (ap (λ (r : Reply). r .answer) (counted-answers d mem sound s there token token time listed))
+
+    pub held-told-24 :
+        (revokeHeldOut mem s token time listed .reply .answer ≡ LogFull)
+        ↔ (With × (revokeCapabilityOut mem token time listed .reply .answer ≡ LogFull))
+    held-told-24 = held-told-own LogFull (inr (inl refl))
+
+    pub held-told-25 :
+        (revokeHeldOut mem s token time listed .reply .answer ≡ PidTableFull)
+        ↔ (With × (revokeCapabilityOut mem token time listed .reply .answer ≡ PidTableFull))
+    held-told-25 = held-told-own PidTableFull (inr (inr refl))
+
+    pub held-told-0 :
+        (revokeHeldOut mem s token time listed .reply .answer ≡ Done)
+        ↔ (With × (revokeCapabilityOut mem token time listed .reply .answer ≡ Done))
+    held-told-0 = held-told-own Done (inl refl)
 
 -- ---- a batch
 

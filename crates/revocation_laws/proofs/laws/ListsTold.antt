@@ -1,5 +1,5 @@
 -- When each answer of the calls that list and of those for notifications is given, on a sound memory: 21 exactly for a field out of its
--- range or an area too short, 25 exactly where a pid has no queue and no place is free, else 0.
+-- range or an area too short, 25 exactly where a pid has no queue and no place is free, 0 exactly in the rest.
 use mathlib.Core.List.{List}
 use mathlib.Core.Logic.{_↔_, _⊎_, inl, inr, ⊎-elim}
 use mathlib.Core.Path.{_≡_, refl}
@@ -9,7 +9,7 @@ use borrow.Author.Tests.{ltb-true, ltb-false, leb-true, leb-false}
 use lib.Dec.{leb, ltb}
 use lib.ListN.{length}
 use Rattle.answers.specs.declared.Answer.{Answer}
-use Rattle.answers.specs.declared.Answer.the-variants.{Done, BadField, PidTableFull}
+use Rattle.answers.specs.declared.Answer.the-variants.{Done, BadField, PidTableFull, BadWorld}
 use Rattle.revocation.specs.Reason.{reasonOf, nameOf}
 use Rattle.revocation_steps.specs.Revocation.{queueFor}
 use Rattle.steps.specs.Replies.{Left, Listed}
@@ -20,8 +20,8 @@ use Rattle.steps.proofs.laws.Entered.{world-by-cases}
 use Rattle.world.specs.Numbers.{numbersOf}
 use Rattle.world.specs.Sound.{Sound}
 use Rattle.world.specs.declared.Numbers.{Numbers}
 use Rattle.revocation_calls.specs.Calls.{listedIn, descendants, descendantsOut, notifyOut, noticesFor, peekOut, drainOut, reasonOut}
-use Rattle.revocation_calls.proofs.laws.NoticeWays.{NoPlace, HasPlace, TooShort, notify-by-cases, peek-by-cases, drain-by-cases}
+use Rattle.revocation_laws.proofs.laws.NoticeWays.{NoPlace, HasPlace, TooShort, LongEnough, notify-by-cases, peek-by-cases, drain-by-cases}
 
 -- ---- lists
 
@@ -32,6 +32,13 @@ listed-told-21 xs area =
     when-by-cases (λ (l : Listed). (l .reply .answer ≡ BadField) ↔ (length area < length xs)) _ _ (ltb (length area) (length xs))
     (λ e. given refl (ltb-true _ _ e))
     (λ e. let fits = ltb-false (length area) (length xs) e in not-given Done BadField (λ e. omega arith) (λ short. omega arith))
+
+listed-told-0 : (xs area : List ℕ) → (listedIn xs area .reply .answer ≡ Done) ↔ (length xs ≤ length area)
+unfolding listedIn
+listed-told-0 xs area =
+    when-by-cases (λ (l : Listed). (l .reply .answer ≡ Done) ↔ (length xs ≤ length area)) _ _ (ltb (length area) (length xs))
+    (λ e. let short = ltb-true (length area) (length xs) e in not-given BadField Done (λ e. omega arith) (λ fits. omega arith))
+    (λ e. given refl (ltb-false _ _ e))
 
 pub reason-told-21 :
     (reason : ℕ) (area : List ℕ)
@@ -47,6 +54,20 @@ reason-told-21 reason area =
   where
     Bad : Type 0
     Bad = (3 < reason) ⊎ (length area < length (nameOf (reasonOf reason)))
+
+pub reason-told-0 :
+    (reason : ℕ) (area : List ℕ)
+    → (reasonOut reason area .reply .answer ≡ Done) ↔ ((reason ≤ 3) × (length (nameOf (reasonOf reason)) ≤ length area))
+unfolding reasonOut
+reason-told-0 reason area =
+    when-by-cases (λ (l : Listed). (l .reply .answer ≡ Done) ↔ Good) _ _ (ltb 3 reason)
+    (λ e. let over = ltb-true 3 reason e in not-given BadField Done (λ e. omega arith) (λ (coded, fits). omega arith))
+    (λ e.
+    let told = listed-told-0 (nameOf (reasonOf reason)) area in
+    (λ done. (ltb-false 3 reason e, told .0 done), λ (coded, fits). told .1 fits))
+  where
+    Good : Type 0
+    Good = (reason ≤ 3) × (length (nameOf (reasonOf reason)) ≤ length area)
 
 module _ (mem : List ℕ) (sound : Sound mem) where
   abbrev d : Numbers
@@ -125,3 +146,47 @@ module _ (mem : List ℕ) (sound : Sound mem) where
           (λ sound fits coded (none, full).
           not-given PidTableFull Done (λ e. omega arith) (⊎-elim (λ l. omega arith) (λ l. omega arith)))
           (λ sound fits coded room. given refl room)
+
+-- ---- 0 of the calls that list
+
+module _ (mem : List ℕ) where
+  pub descendants-told-0 :
+      (id : ℕ) (area : List ℕ)
+      → (descendantsOut mem id area .reply .answer ≡ Done)
+      ↔ (Sound mem
+      × ((id < 2 ^ 48) × (length (descendants (numbersOf mem) mem (placeIn (numbersOf mem) mem id)) ≤ length area)))
+  unfolding descendantsOut
+  descendants-told-0 id area =
+      world-by-cases Said _ mem _ (λ bad. not-given BadWorld Done (λ e. omega arith) (λ (sound, fits). bad sound))
+      (λ sound.
+      when-by-cases Said _ _ (leb (2 ^ 48) id)
+      (λ e.
+      let over = leb-true (2 ^ 48) id e in
+      not-given BadField Done (λ e. omega arith) (λ (sound, (fits, long)). omega arith))
+      (λ e.
+      let told = listed-told-0 (descendants (numbersOf mem) mem (placeIn (numbersOf mem) mem id)) area in
+      (λ done. (sound, (leb-false (2 ^ 48) id e, told .0 done)), λ (sound, (fits, long)). told .1 long)))
+    where
+      Said : Listed → Type 0
+      Said l =
+          (l .reply .answer ≡ Done)
+          ↔ (Sound mem
+          × ((id < 2 ^ 48) × (length (descendants (numbersOf mem) mem (placeIn (numbersOf mem) mem id)) ≤ length area)))
+
+  module _ (pid : ℕ) (area : List ℕ) where
+    abbrev Fits : Type 0
+    Fits = Sound mem × LongEnough mem pid area
+
+    pub peek-told-0 : (peekOut mem pid area .reply .answer ≡ Done) ↔ (Sound mem × LongEnough mem pid area)
+    peek-told-0 =
+        peek-by-cases mem pid area (λ (l : Listed). (l .reply .answer ≡ Done) ↔ Fits)
+        (λ bad. not-given BadWorld Done (λ e. omega arith) (λ (sound, fits). bad sound))
+        (λ sound short. not-given BadField Done (λ e. omega arith) (λ (sound, fits). omega arith))
+        (λ sound fits. given refl (sound, fits))
+
+    pub drain-told-0 : (drainOut mem pid area .reply .reply .answer ≡ Done) ↔ (Sound mem × LongEnough mem pid area)
+    drain-told-0 =
+        drain-by-cases mem pid area (λ (out : Left Listed). (out .reply .reply .answer ≡ Done) ↔ Fits)
+        (λ bad. not-given BadWorld Done (λ e. omega arith) (λ (sound, fits). bad sound))
+        (λ sound short. not-given BadField Done (λ e. omega arith) (λ (sound, fits). omega arith))
+        (λ sound fits. given refl (sound, fits))

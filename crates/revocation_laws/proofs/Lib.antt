@@ -1,0 +1,2 @@
+-- What is promised of the calls of revocation.
+pub mod laws

@@ -1,0 +1,122 @@
+-- The calls that revoke, given 0: what holds of the memory that a revocation given 0 leaves holds of the memory that the call leaves.
+use mathlib.Core.Bool.{not}
+use mathlib.Core.List.{List}
+use mathlib.Core.Logic.{_≢_}
+use mathlib.Core.Path.{_≡_, refl, ap}
+use Prim.Native.Nat.{ℕ, _^_, _≤_, _<_}
+use native.Mathlib.Omega.{arith}
+use Rattle.answers.specs.Number.{numberOf}
+use Rattle.answers.specs.declared.Answer.{Answer}
+use Rattle.answers.specs.declared.Answer.the-variants.{Done}
+use Rattle.space.specs.Lookup.{lookedUp}
+use Rattle.steps.specs.Replies.{Left}
+use Rattle.steps.specs.Steps.{spaceOf, lookupStep, placeIn}
+use Rattle.steps.specs.declared.Reply.{Reply}
+use Rattle.steps.proofs.laws.Cases.{when-by-cases}
+use Rattle.table.specs.declared.Got.{Got}
+use Rattle.table.specs.declared.Got.the-variants.{Entry, Nothing}
+use Rattle.token.specs.Rights.{holds}
+use Rattle.token.specs.Token.{idOf}
+use Rattle.world.specs.Numbers.{numbersOf, registeredOf}
+use Rattle.world.specs.Sound.{Sound}
+use Rattle.world.specs.declared.Numbers.{Numbers}
+use Rattle.revocation_calls.specs.Calls.{revokeOut, revokeCapabilityOut, revokeHeldOut}
+use Rattle.revocation_calls.specs.Revoking.{revoking, listing, revokingToken, revokingHeld}
+use Rattle.revocation_laws.proofs.laws.Counted.{same-registered, same-registry}
+use Rattle.revocation_laws.proofs.laws.Ways.{revoking-token-by-cases, revoke-by-cases, revoke-capability-by-cases, held-by-cases}
+
+-- Given 0, it leaves a memory that P holds of.
+abbrev pub Given : (List ℕ → Type 0) → Left Reply → Type 0
+Given P out = out .reply .answer ≡ Done → P (out .memory)
+
+not-done : {A : Type 0} (a : Answer) → numberOf a ≢ 0 → a ≡ Done → A
+not-done a some e = absurd (some (ap numberOf e))
+
+module _ (mem : List ℕ) (token time : ℕ) (listed : List ℕ) (P : List ℕ → Type 0) where
+  abbrev d : Numbers
+  d = numbersOf mem
+
+  abbrev place : ℕ
+  place = placeIn d mem (idOf token)
+
+  -- From a registered place.
+  module _ (made : Sound mem → place < registeredOf mem → Given P (revoking (numbersOf mem) place time listed mem)) where
+    pub revoke-given : Given P (revokeOut mem token time listed)
+    revoke-given =
+        revoke-by-cases mem time listed (Given P) (λ bad. not-done _ (λ e. omega arith)) token
+        (λ sound many. not-done _ (λ e. omega arith))
+        (λ sound few outside. not-done _ (λ e. omega arith))
+        (λ sound few. made sound)
+
+    pub revoke-capability-given : place < registeredOf mem → Given P (revokeCapabilityOut mem token time listed)
+    revoke-capability-given inside =
+        revoke-capability-by-cases mem time listed (Given P) (λ bad. not-done _ (λ e. omega arith)) token
+        (λ sound many. not-done _ (λ e. omega arith))
+        (λ sound few. revoking-token-by-cases d mem (Given P) token time listed (made sound) (λ outside. absurd (omega arith)))
+
+  -- Of an id that is not registered.
+  pub revoke-capability-listed :
+      registeredOf mem ≤ place → (Sound mem → Given P (listing (numbersOf mem) token mem))
+      → Given P (revokeCapabilityOut mem token time listed)
+  revoke-capability-listed outside made =
+      revoke-capability-by-cases mem time listed (Given P) (λ bad. not-done _ (λ e. omega arith)) token
+      (λ sound many. not-done _ (λ e. omega arith))
+      (λ sound few. revoking-token-by-cases d mem (Given P) token time listed (λ inside. absurd (omega arith)) (λ outside. made sound))
+
+  -- By a token that a space holds, from the memory with the lookup counted,
+  module _ (s : ℕ) where
+    abbrev looked : List ℕ
+    looked = lookupStep d s token mem
+
+    held-made :
+        (Sound mem → s < d .spaces → Given P (revokingToken d token time listed looked)) → Given P (revokeHeldOut mem s token time listed)
+    held-made made =
+        held-by-cases mem time listed (Given P) (λ bad. not-done _ (λ e. omega arith)) s token
+        (λ sound far. not-done _ (λ e. omega arith))
+        (λ sound there many. not-done _ (λ e. omega arith))
+        (λ sound there few. go sound there (lookedUp (spaceOf d s mem) token .got))
+      where
+        go :
+            Sound mem → s < d .spaces → (g : Got)
+            → Given P (revokingHeld d token time listed looked g (lookedUp (spaceOf d s mem) token .visits))
+        go sound there Nothing = not-done _ (λ e. omega arith)
+        go sound there (Entry e) =
+            when-by-cases (Given P) _ _ (not (holds (e .rights .0) (2 ^ 4))) (λ without. not-done _ (λ e. omega arith))
+            (λ with′. made sound there)
+
+    -- which has the id at the same place.
+    same-place : Sound mem → s < d .spaces → placeIn d looked (idOf token) ≡ place
+    same-place sound there = rw (same-registered d mem sound s there token, same-registry d mem sound s there token) refl
+
+    pub held-given :
+        place < registeredOf mem
+        → (Sound mem → s < numbersOf mem .spaces → place < registeredOf (lookupStep (numbersOf mem) s token mem)
+        → Given P (revoking (numbersOf mem) place time listed (lookupStep (numbersOf mem) s token mem)))
+        → Given P (revokeHeldOut mem s token time listed)
+    held-given inside made =
+        held-made
+        (λ sound there.
+        let count = same-registered d mem sound s there token in
+        let same = same-place sound there in
+        revoking-token-by-cases d looked (Given P) token time listed
+        (λ _. rw same (made sound there (omega (arith, count))))
+        (λ outside. absurd (omega (arith, count, same))))
+
+    pub held-listed :
+        registeredOf mem ≤ place
+        → (Sound mem → s < numbersOf mem .spaces → Given P (listing (numbersOf mem) token (lookupStep (numbersOf mem) s token mem)))
+        → Given P (revokeHeldOut mem s token time listed)
+    held-listed outside made =
+        held-made
+        (λ sound there.
+        let count = same-registered d mem sound s there token in
+        let same = same-place sound there in
+        revoking-token-by-cases d looked (Given P) token time listed (λ inside. absurd (omega (arith, count, same)))
+        (λ _. made sound there))
+
+-- A held revoke is given 0 only where the memory is sound and the space is there.
+pub held-done :
+    (mem : List ℕ) (token time : ℕ) (listed : List ℕ) (s : ℕ) → revokeHeldOut mem s token time listed .reply .answer ≡ Done
+    → Sound mem × (s < numbersOf mem .spaces)
+held-done mem token time listed s =
+    held-made mem token time listed (λ after. Sound mem × (s < numbersOf mem .spaces)) s (λ sound there e. (sound, there))
