@@ -11,3 +11,6 @@ pub mod CreateMoves
 pub mod DelegateMoves
 pub mod RevocationMoves
 pub mod Moves
+pub mod SpaceIds
+pub mod RevocationIds
+pub mod Ids

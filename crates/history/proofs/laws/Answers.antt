@@ -1,5 +1,5 @@
 -- On a sound memory no call but an opening is given 26.
-use mathlib.Core.Bool.{true, false, true≢false}
+use mathlib.Core.Bool.{false, true≢false}
 use mathlib.Core.List.{List}
 use mathlib.Core.Logic.{_↔_, _≢_}
 use mathlib.Core.Path.{_≡_}
@@ -7,11 +7,11 @@ use Prim.Native.Nat.{ℕ}
 use Rattle.answers.specs.declared.Answer.{Answer}
 use Rattle.answers.specs.declared.Answer.the-variants.{BadWorld}
 use Rattle.steps.proofs.laws.Told.{Told}
-use Rattle.space_calls.proofs.laws.Refused as space
-use Rattle.manager_calls.proofs.laws.CreateTold.{create-entered}
-use Rattle.manager_calls.proofs.laws.DelegateTold.{delegate-told-26}
-use Rattle.manager_calls.proofs.laws.Refused as manager
-use Rattle.revocation_calls.proofs.laws.Told as revocation
+use Rattle.space_laws.proofs.laws.Refused as space
+use Rattle.manager_laws.proofs.laws.CreateTold.{create-entered}
+use Rattle.manager_laws.proofs.laws.DelegateTold.{delegate-told-26}
+use Rattle.manager_laws.proofs.laws.Refused as manager
+use Rattle.revocation_laws.proofs.laws.Told as revocation
 use Rattle.world.specs.Sound.{Sound}
 use Rattle.history.specs.Call.{Reading, Accepting, Changing, Call, open-world, reads, accepts, changes}
 use Rattle.history.specs.Call.{space-used, space-quota, space-table-capacity, space-generation, space-stats, space-get-entry, space-nth-entry, is-valid, manager-stats, get-children, derivation-tree-stats, census, is-revoked, epoch, get-derivation-tree, peek-notifications, notification-count, notification-stats}

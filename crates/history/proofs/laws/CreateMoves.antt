@@ -8,16 +8,16 @@ use lib.Dec.{eqb}
 use Rattle.answers.specs.Number.{numberOf}
 use Rattle.base.specs.Below.{one}
 use Rattle.manager_calls.specs.Calls.{createOut}
-use Rattle.manager_calls.proofs.laws.Admitted.{accepted-done}
-use Rattle.manager_calls.proofs.laws.Created as create
-use Rattle.manager_calls.proofs.laws.Sound.{registered-kept}
-use Rattle.manager_calls.proofs.laws.Unchanged.{create-undone}
+use Rattle.manager_laws.proofs.laws.Admitted.{accepted-done}
+use Rattle.manager_laws.proofs.laws.Created as create
+use Rattle.manager_laws.proofs.laws.Sound.{registered-kept}
+use Rattle.manager_laws.proofs.laws.Unchanged.{create-undone}
 use Rattle.space.specs.Change.{insertOut}
 use Rattle.space.proofs.laws.Insert.{Accepts}
 use Rattle.steps.specs.Replies.{Left}
-use Rattle.steps.specs.Steps.{spaceOf, insertStep, recycleStep, countStep}
+use Rattle.steps.specs.Steps.{spaceOf, insertStep, recycleStep, addStep}
 use Rattle.steps.specs.declared.Reply.{Reply}
-use Rattle.steps.proofs.laws.RegistrySteps.{register-step, recycle-step, count-step}
+use Rattle.steps.proofs.laws.RegistrySteps.{register-step, recycle-step, add-step}
 use Rattle.steps.proofs.laws.SpaceSteps.{insert-step-kept}
 use Rattle.steps.proofs.laws.TakeStep.{take-step-kept, taken-room}
 use Rattle.table.specs.declared.CapabilityEntry.{CapabilityEntry}
@@ -31,14 +31,14 @@ use Rattle.history.proofs.laws.Paid.{Pays, Quiet, within, quiet-refl, q
 pub admission-pays :
     (d : Numbers) (s : ℕ) → s < d .spaces → (mem : List ℕ) → SoundAt d mem → (t : ℕ) → t < d .spaces → (e : CapabilityEntry)
     → e .rights .0 < 2 ^ 32 → Accepts (spaceOf d t mem) e → (i : ℕ) → 7 ≤ i → i < 11
-    → Pays d s mem (countStep i (insertStep d t e mem)) (within s t (insertOut (spaceOf d t mem) e .moved)) (within s t 1)
+    → Pays d s mem (addStep i 1 (insertStep d t e mem)) (within s t (insertOut (spaceOf d t mem) e .moved)) (within s t 1)
 admission-pays d s inside mem sound t there e fits takes i low high =
     let sp : List ℕ = spaceOf d t mem in
     let came = insert-step-kept d mem sound t there e fits in
     quiet-last d s mem _ _ _ _
     (subst (λ a. Pays d s mem (insertStep d t e mem) (within s t (insertOut sp e .moved)) (within s t (one (eqb (numberOf a) 0))))
     (accepted-done sp e takes) (insert-pays d s inside mem sound t there e fits))
-    (changed-quiet d s inside _ _ _ _ _ (count-step d _ (came .sound) i low high))
+    (changed-quiet d s inside _ _ _ _ _ (add-step d _ (came .sound .long-enough) i 1 (omega arith) high))
 
 module _ (mem : List ℕ) (sound : Sound mem) (s : ℕ) (inside : s < numbersOf mem .spaces)
     (t object : ℕ) (valid : Bool) (cap-type rights : ℕ) (fits : rights < 2 ^ 32)

@@ -12,19 +12,19 @@ use lib.Dec.{eqb}
 use lib.ListN.{getD}
 use Rattle.base.specs.Below.{one}
 use Rattle.manager_calls.specs.Calls.{delegateOut}
-use Rattle.manager_calls.proofs.laws.Delegated as delegate
-use Rattle.manager_calls.proofs.laws.Recording.{listed, recording}
-use Rattle.manager_calls.proofs.laws.Roomed.{parentIn, roomed, roomed-by-cases}
-use Rattle.manager_calls.proofs.laws.Sound.{parent-registered, offered-by-lookups, registered-kept}
-use Rattle.manager_calls.proofs.laws.Unchanged.{delegate-undone}
+use Rattle.manager_laws.proofs.laws.Delegated as delegate
+use Rattle.manager_laws.proofs.laws.Recording.{listed, recording}
+use Rattle.manager_laws.proofs.laws.Roomed.{parentIn, roomed, roomed-by-cases}
+use Rattle.manager_laws.proofs.laws.Sound.{parent-registered, offered-by-lookups, registered-kept}
+use Rattle.manager_laws.proofs.laws.Unchanged.{delegate-undone}
 use Rattle.space.proofs.laws.Insert.{Accepts}
 use Rattle.steps.specs.Replies.{Left}
-use Rattle.steps.specs.Steps.{spaceOf, lookupStep, insertStep, takeStep, objects, countStep}
+use Rattle.steps.specs.Steps.{spaceOf, lookupStep, insertStep, takeStep, objects, addStep}
 use Rattle.steps.specs.declared.Reply.{Reply}
 use Rattle.steps.proofs.laws.OnlyIds.{take-step}
 use Rattle.steps.proofs.laws.OnlySpace.{lookup-step, insert-step}
 use Rattle.steps.proofs.laws.RegistryChanged.{RegistryChanged}
-use Rattle.steps.proofs.laws.RegistrySteps.{register-step, list-step, list-step-kept, recycle-step, collect-step, collect-step-kept, count-step}
+use Rattle.steps.proofs.laws.RegistrySteps.{register-step, list-step, list-step-kept, recycle-step, collect-step, collect-step-kept, add-step}
 use Rattle.steps.proofs.laws.SpaceSteps.{lookup-step-kept, insert-step-kept}
 use Rattle.steps.proofs.laws.TakeStep.{take-step-kept, taken-room}
 use Rattle.table.specs.declared.CapabilityEntry.{CapabilityEntry}
@@ -160,14 +160,14 @@ module _ (mem : List ℕ) (s : ℕ) (inside : s < numbersOf mem .spaces) (token 
       small = omega (arith, and-le-r (t .asked .granted .entry .rights .0) rights)
 
       -- The statistic counts.
-      counted : getD (countStep 8 (insertStep d target child recorded)) 8 0 ≢ getD mem 8 0
+      counted : getD (addStep 8 1 (insertStep d target child recorded)) 8 0 ≢ getD mem 8 0
       counted e =
           let there = t .asked .granted .entered .to in
           let came = insert-step-kept d recorded (recorded-along .sound) target there child small in
           let head : getD (insertStep d target child recorded) 8 0 ≡ getD mem 8 0 =
           insert-step d recorded (recorded-along .sound) target there child small .only .same-head 8 (omega arith)
           ∙ recorded-along .delegated in
-          omega (arith, e, head, count-step d _ (came .sound) 8 (omega arith) (omega arith) .new-word)
+          omega (arith, e, head, add-step d (insertStep d target child recorded) (came .sound .long-enough) 8 1 (omega arith) (omega arith) .new-word)
 
   -- ---- every way
 

@@ -7,9 +7,9 @@ use Prim.Native.Nat.{ℕ}
 use lib.ListN.{length}
 use Rattle.base.specs.Choose.{pick}
 use Rattle.steps.proofs.laws.Kept.{Kept, kept-refl, kept-sound}
-use Rattle.space_calls.proofs.laws.Sound as space
-use Rattle.manager_calls.proofs.laws.Sound as manager
-use Rattle.revocation_calls.proofs.laws.Sound as revocation
+use Rattle.space_laws.proofs.laws.Sound as space
+use Rattle.manager_laws.proofs.laws.Sound as manager
+use Rattle.revocation_laws.proofs.laws.Sound as revocation
 use Rattle.world.specs.Numbers.{numbersOf}
 use Rattle.world.specs.Sound.{Sound}
 use Rattle.world.specs.declared.Numbers.{Numbers}

@@ -7,12 +7,12 @@ use Prim.Native.Nat.{ℕ, _+_, _*_, _≤_, _<_}
 use native.Mathlib.Omega.{arith}
 use lib.ListN.{length}
 use Rattle.manager_calls.specs.Calls.{deleteOut, checkOut}
-use Rattle.manager_calls.proofs.laws.Sound.{deleted-kept}
-use Rattle.manager_calls.proofs.laws.Ways.{delete-by-cases, check-by-cases}
+use Rattle.manager_laws.proofs.laws.Sound.{deleted-kept}
+use Rattle.manager_laws.proofs.laws.Ways.{delete-by-cases, check-by-cases}
 use Rattle.steps.specs.Replies.{Left}
 use Rattle.steps.specs.Steps.{lookupStep, placeIn, unregisterStep}
 use Rattle.steps.specs.declared.Reply.{Reply}
-use Rattle.steps.proofs.laws.RegistrySteps.{unregister-step, unregister-step-kept, recycle-step, count-step}
+use Rattle.steps.proofs.laws.RegistrySteps.{unregister-step, unregister-step-kept, recycle-step, add-step}
 use Rattle.table.proofs.laws.Potential.{none-pays}
 use Rattle.token.specs.Token.{idOf}
 use Rattle.world.specs.Numbers.{numbersOf, recycledOf}
@@ -58,7 +58,7 @@ module _ (mem : List ℕ) (sound : Sound mem) (s : ℕ) (inside : s < numbersOf 
       quiet-trans d s mem _ _ (changed-quiet d s inside _ _ _ _ _ left)
       (quiet-trans d s _ _ _ (changed-quiet d s inside _ _ _ _ _ (recycle-step d _ (gone .sound) (idOf token) again))
       (changed-quiet d s inside _ _ _ _ _
-      (count-step d _ (deleted-kept d mem sound (idOf token) there room .sound) 10 (omega arith) (omega arith)))))
+      (add-step d _ (deleted-kept d mem sound (idOf token) there room .sound .long-enough) 10 1 (omega arith) (omega arith)))))
 
   check-calm : (token required t : ℕ) → Calm (checkOut mem token required t)
   check-calm token required t =

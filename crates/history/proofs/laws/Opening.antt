@@ -11,7 +11,7 @@ use lib.ListN.{length}
 use Rattle.answers.specs.Number.{numberOf}
 use Rattle.answers.specs.declared.Answer.the-variants.{Done, BadField, BadWorld}
 use Rattle.base.specs.Choose.{when}
-use Rattle.world.specs.Open.{Left, opened, recordTest, opening}
+use Rattle.world.specs.Open.{Answered, opened, recordTest, opening}
 use Rattle.world.specs.Opened.{opened-length, opened-past, opened-numbers}
 use Rattle.world.specs.OpenedSound.{opened-sound}
 use Rattle.world.specs.Regions.{lengthFor}
@@ -21,7 +21,7 @@ use Rattle.history.specs.Promises.{Stays}
 
 module _ (d : Numbers) (quotas mem : List ℕ) where
   pub opening-by-cases :
-      (P : Left → Type 0) → P (record { answer = BadField; memory = mem }) → P (record { answer = BadWorld; memory = mem })
+      (P : Answered → Type 0) → P (record { answer = BadField; memory = mem }) → P (record { answer = BadWorld; memory = mem })
       → (recordTest d quotas ≡ true → lengthFor d ≤ length mem → P (record { answer = Done; memory = opened d quotas mem }))
       → P (opening d quotas mem)
   unfolding opening when
@@ -45,7 +45,7 @@ module _ (d : Numbers) (quotas mem : List ℕ) where
 
   pub opening-opens : opening d quotas mem .answer ≡ Done → Opened (opening d quotas mem .memory)
   opening-opens =
-      opening-by-cases (λ (out : Left). out .answer ≡ Done → Opened (out .memory))
+      opening-by-cases (λ (out : Answered). out .answer ≡ Done → Opened (out .memory))
       (λ e. absurd (omega (arith, ap numberOf e)))
       (λ e. absurd (omega (arith, ap numberOf e)))
       (λ good long e. record {
@@ -62,13 +62,13 @@ module _ (d : Numbers) (quotas mem : List ℕ) where
 
   pub opening-refused : eqb (numberOf (opening d quotas mem .answer)) 0 ≡ false → opening d quotas mem .memory ≡ mem
   opening-refused =
-      opening-by-cases (λ (out : Left). eqb (numberOf (out .answer)) 0 ≡ false → out .memory ≡ mem) (λ e. refl) (λ e. refl)
+      opening-by-cases (λ (out : Answered). eqb (numberOf (out .answer)) 0 ≡ false → out .memory ≡ mem) (λ e. refl) (λ e. refl)
       (λ good long e. absurd (eqb-false 0 0 e refl))
 
   pub opening-keeps : Sound mem → Sound (opening d quotas mem .memory)
   opening-keeps sound =
-      opening-by-cases (λ (out : Left). Sound (out .memory)) sound sound (λ good long. opened-sound d quotas mem long good)
+      opening-by-cases (λ (out : Answered). Sound (out .memory)) sound sound (λ good long. opened-sound d quotas mem long good)
 
   pub opening-length : length (opening d quotas mem .memory) ≡ length mem
   opening-length =
-      opening-by-cases (λ (out : Left). length (out .memory) ≡ length mem) refl refl (λ good long. opened-length d quotas mem long)
+      opening-by-cases (λ (out : Answered). length (out .memory) ≡ length mem) refl refl (λ good long. opened-length d quotas mem long)

@@ -13,15 +13,15 @@ use Rattle.steps.proofs.laws.Cases.{pick-by-cases, when-by-cases}
 use Rattle.revocation_calls.specs.Calls.{revokeOut, revokeCapabilityOut, revokeHeldOut, revokeBatchOut, notifyOut, without, drainOut, cleanupOut}
 use Rattle.revocation_calls.specs.Revoking.{revoking, listing, revokingToken, revokingHeld, revokingEach}
 use Rattle.revocation_calls.proofs.laws.Kept.{revoking-token-kept}
-use Rattle.revocation_calls.proofs.laws.NoticeWays.{notify-by-cases, drain-by-cases}
-use Rattle.revocation_calls.proofs.laws.Ways.{newPair, revoking-by-cases, listing-by-cases, revoking-token-by-cases, revoke-by-cases, revoke-capability-by-cases, held-by-cases, batch-by-cases}
-use Rattle.revocation_steps.specs.Revocation.{addStep, logStep, queueFor}
+use Rattle.revocation_laws.proofs.laws.NoticeWays.{notify-by-cases, drain-by-cases}
+use Rattle.revocation_laws.proofs.laws.Ways.{newPair, revoking-by-cases, listing-by-cases, revoking-token-by-cases, revoke-by-cases, revoke-capability-by-cases, held-by-cases, batch-by-cases}
+use Rattle.revocation_steps.specs.Revocation.{logStep, queueFor}
 use Rattle.revocation_steps.proofs.laws.CascadeSteps.{revoke-step-space}
 use Rattle.revocation_steps.proofs.laws.LogSteps.{log-step-holdings}
 use Rattle.revocation_steps.proofs.laws.QueueSteps.{notify-step, free-step}
 use Rattle.space.specs.Lookup.{lookedUp}
 use Rattle.steps.specs.Replies.{Left, Listed}
-use Rattle.steps.specs.Steps.{spaceOf, placeIn}
+use Rattle.steps.specs.Steps.{spaceOf, placeIn, addStep}
 use Rattle.steps.specs.declared.Reply.{Reply}
 use Rattle.steps.proofs.laws.Entered.{world-by-cases}
 use Rattle.steps.proofs.laws.Kept.{set-view}

@@ -32,8 +32,8 @@ use Rattle.table.specs.declared.CapTable.{CapTable}
 use Rattle.table.specs.declared.CapabilityEntry.{CapabilityEntry}
 use Rattle.token.specs.Rights.{common}
 use Rattle.token.specs.Token.{typeOf, idOf as tokenId}
-use Rattle.manager_calls.proofs.laws.SameRegistered.{take-same, same-place, same-children}
-use Rattle.manager_calls.proofs.laws.Sound.{registered-kept, taken-in-hand, parentless, offered-kept, parent-registered, collected-place, child-registration}
+use Rattle.manager_laws.proofs.laws.SameRegistered.{take-same, same-place, same-children}
+use Rattle.manager_laws.proofs.laws.Sound.{registered-kept, taken-in-hand, parentless, offered-kept, parent-registered, collected-place, child-registration}
 use Rattle.world.specs.Numbers.{numbersOf, registeredOf}
 use Rattle.world.specs.Sound.{states, SoundAt, Sound}
 use Rattle.world.specs.declared.Numbers.{Numbers}
