@@ -1,11 +1,12 @@
 -- Bytes written at a place of a list: those that stood there are gone, all others stay.
-use mathlib.Core.Path.{_≡_, sym, _∙_}
-use mathlib.Core.List.{List, _++_, append-assoc}
+use mathlib.Core.Path.{_≡_, sym, ap, _∙_}
+use mathlib.Core.List.{List, [], _++_, append-assoc}
 use Prim.Native.Nat.{ℕ, _+_, _≤_}
-use native.Mathlib.Nat.{add-assoc}
+use native.Mathlib.Nat.{add-assoc, add-zero, zero-add}
 use native.Mathlib.Omega.{arith}
-use lib.ListN.{length, take, drop, length-append}
+use lib.ListN.{length, take, drop, length-append, length-drop, take-append-drop}
 use lib.Seq.{length-take-le, take-at, drop-at, drop-drop}
+use Rattle.base.specs.Written.{written}
 
 -- xs at place `at` of the list before makes the list after, and end is the place behind.
 pub record Laid (at : ℕ) (xs before after : List ℕ) (end : ℕ) : Type 0 where
@@ -26,6 +27,21 @@ module _ (at : ℕ) (xs before after : List ℕ) (end : ℕ) (laid : Laid at xs 
         list = next .list ∙ rw (joint, take-at front rest end seam, behind) (simp append-assoc);
         place = simp length-append (omega (arith, laid .place, next .place));
       }
+
+  -- As long as before, where they fit.
+  pub length-laid : end ≤ length before → length after ≡ length before
+  length-laid fits =
+      let inside : at + length xs ≤ length before = omega (arith, laid .place) in
+      rw (laid .list) (simp (length-append, length-drop, length-take-le at before (omega arith)) (omega arith))
+
+-- No bytes are laid where nothing is written.
+pub laid-none : (at : ℕ) (lines : List ℕ) → Laid at [] lines lines at
+laid-none at lines = record { list = rw add-zero (sym (take-append-drop at lines)); place = sym (add-zero at) }
+
+-- Bytes at the front.
+pub laid-front : (xs before after : List ℕ) (end : ℕ) → Laid 0 xs before after end → after ≡ written xs before
+unfolding written
+laid-front xs before after end laid = laid .list ∙ ap (λ n. xs ++ drop n before) (zero-add (length xs))
 
 -- Equal bytes are laid alike, whatever follows them.
 pub laid-same :

@@ -1,8 +1,10 @@
-// The records of the request stream: the fields of one, which of them each operation reads, what is refused before a call is made, and the
-// line that is printed for it.
-pub mod line;
-pub mod masks;
-pub mod record;
+// The records of the request stream: the fields of one, which of them each operation reads, what is refused before a call is made, the call
+// and the line that is printed for it, and a whole run.
+mod calls;
+mod line;
+mod masks;
+mod record;
+pub mod run;
 
 use answers::Answer;
 

@@ -10,7 +10,8 @@ use super::Request;
 use super::Verdict;
 use answers::Answer;
 
-// The fields that each operation reads, from 0 to 15, a bit a field: space, second space, valid, type, rights, word A, word B.
+// The fields that each operation reads, from 0 to 15, a bit a field, the lowest bit first: space, second space, valid, type, rights,
+// word A, word B.
 const MASKS: [u8; 16] = [
     0b0000000,
     0b0111101,

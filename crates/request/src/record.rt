@@ -1,6 +1,6 @@
 // The fields of a record, from its 24 bytes.
 ghost use mathlib.Core.Path.{_≡_};
-ghost use Prim.Native.Nat.{_+_, _≤_};
+ghost use Prim.Native.Nat.{_+_, _<_, _≤_};
 ghost use lib.ListN.{length};
 ghost use Rattle.request.specs.Record.{wordAt, requestOf};
 use super::Request;
@@ -22,7 +22,7 @@ fn word_at(bytes: &[u8], i: usize) -> u64
 // The fields of the record that begins at place i.
 pub fn request_of(bytes: &[u8], i: usize) -> Request
     requires { ⌜ i + 24 ≤ length (now bytes) ⌝ }
-    ensures { λ r. ⌜ r ≡ requestOf (now (bytes .entry)) i ⌝ }
+    ensures { λ r. ⌜ (r ≡ requestOf (now (bytes .entry)) i) × (r .op < 32) ⌝ }
 {
     let w = word_at(bytes, i);
     Request {

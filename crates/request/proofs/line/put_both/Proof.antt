@@ -1,5 +1,4 @@
 -- `request::line::put_both` meets its contract: two writings one behind the other are one of the joint bytes.
--- Assumes nothing.
 use native.Mathlib.Omega.{arith}
 use borrow.Author.Needs.{needs}
 use Rattle.request.specs.Laid.{laid-laid}

@@ -1,5 +1,4 @@
 -- `request::line::put_hex` meets its contract: the text that is put begins with the value's digits.
--- Assumes nothing.
 use native.Mathlib.Omega.{arith}
 use borrow.Author.Needs.{needs}
 use Rattle.request.specs.Laid.{laid-same}
@@ -16,11 +15,5 @@ ruleset laws = (needs, spelt-hex, laid-same)
 pub put-hex-spec : {M : Type 1} → statement M
 put-hex-spec =
     tie.close
-    (tie.spec
-    (λ c κs. search laws)
-    (λ c. search laws)
-    (λ c. search laws)
-    (λ c. search laws)
-    put-both-requires
-    (λ c. search laws)
+    (tie.spec (λ c κs. search laws) (λ c. search laws) (λ c. search laws) (λ c. search laws) put-both-requires (λ c. search laws)
     (λ c. search laws))

@@ -1,5 +1,4 @@
 -- `request::line::write_line` meets its contract: its four fields are written one behind the other.
--- Assumes nothing.
 use mathlib.Core.Path.{_≡_, _∙_}
 use mathlib.Core.List.{List, [], _∷_, _++_, append-assoc}
 use Prim.Native.Nat.{ℕ, _+_, _<_, _≤_}
@@ -78,10 +77,4 @@ returns c =
 pub write-line-spec : {M : Type 1} → statement M
 write-line-spec =
     tie.close
-    (tie.spec
-    (λ c κs. search needs)
-    put-decimal-requires-2
-    put-decimal-requires-3
-    put-hex-requires
-    (λ c. search needs)
-    returns)
+    (tie.spec (λ c κs. search needs) put-decimal-requires-2 put-decimal-requires-3 put-hex-requires (λ c. search needs) returns)

@@ -1,5 +1,4 @@
 -- `request::masks::is_far` meets its contract: the test of the low bit decides the `pick`.
--- Assumes nothing.
 use mathlib.Core.Bool.{Bool, true, false, not}
 use mathlib.Core.Path.{_≡_, refl}
 use Prim.Native.Nat.{ℕ, _%_}

@@ -1,5 +1,4 @@
 -- `request::masks::is_stray` meets its contract: the test of the low bit decides the `pick`.
--- Assumes nothing.
 use borrow.Author.Tests.{eq-eqb, ne-eqb}
 use Rattle.request.proofs.masks.is_stray.Statement.{statement}
 use Rattle.request.proofs.masks.is_stray.Tie as tie

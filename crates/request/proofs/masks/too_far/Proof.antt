@@ -1,5 +1,4 @@
 -- `request::masks::too_far` meets its contract: the first number that is read is too far, or else the second one decides.
--- Assumes nothing.
 use mathlib.Core.Bool.{Bool, true, false, not}
 use mathlib.Core.Path.{_≡_, sym, _∙_}
 use Prim.Native.Nat.{ℕ, _/_, _%_}

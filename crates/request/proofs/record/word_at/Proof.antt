@@ -1,5 +1,4 @@
 -- `request::record::word_at` meets its contract: with the bytes from the j-th on read behind those before, the word becomes the answer.
--- Assumes nothing.
 use mathlib.Core.Path.{_≡_, refl}
 use mathlib.Core.List.{List}
 use Prim.Native.Nat.{ℕ, suc, _+_, _-_, _*_, _^_, _<_, _≤_}
@@ -69,16 +68,5 @@ loop-again c =
 pub word-at-spec : {M : Type 1} → statement M
 word-at-spec =
     tie.close
-    (tie.spec
-    Inv-loop
-    μ-loop
-    (λ c. search laws)
-    mul-word
-    (λ c. search laws)
-    (λ c. search laws)
-    cast-word
-    add-word-2
-    (λ c. search laws)
-    (λ c. search laws)
-    loop-again
-    (λ c. search laws))
+    (tie.spec Inv-loop μ-loop (λ c. search laws) mul-word (λ c. search laws) (λ c. search laws) cast-word add-word-2 (λ c. search laws)
+    (λ c. search laws) loop-again (λ c. search laws))

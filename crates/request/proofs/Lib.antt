@@ -1,0 +1,2 @@
+-- What the proofs of `request` share.
+pub mod laws

@@ -1,0 +1,2 @@
+-- Laws of a whole run, from its definition alone.
+pub mod Room
