@@ -1,0 +1,2 @@
+-- What a run of the request stream means.
+pub mod laws

@@ -1,0 +1,2 @@
+// What a run of the request stream means: its world stays sound, no line has 26, and when a record is answered 21. There is nothing to
+// run here: the records and the run are in `request`.
