@@ -1,0 +1,3 @@
+-- The proof of specs/Rows.antt.
+pub mod Unfolded
+pub mod Rows
