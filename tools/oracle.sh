@@ -37,8 +37,33 @@ skip_without_oracle() { # WHAT
     fi
 }
 
-oracle_cargo() { # COMMAND WORDS.., by the profile in $profile, else release
+oracle_cargo() { # COMMAND WORDS.., by the profile in $profile, else release, in the folder $built, else target/cargo
     command=$1
     shift
-    CARGO_TARGET_DIR=$root/target/cargo cargo "$command" --quiet --profile "${profile:-release}" --locked --offline --manifest-path "$root/oracle/Cargo.toml" "$@"
+    CARGO_TARGET_DIR=${built:-$root/target/cargo} cargo "$command" --quiet --profile "${profile:-release}" --locked --offline --manifest-path "$root/oracle/Cargo.toml" "$@"
+}
+
+# A fixed list of the original's answers, which the program BINARY writes: into the crate that replays it, or with --check into target/, to
+# be compared with what the crate has; the last line is then 'N passed, M failed'.
+fixed_list() { # BINARY CRATE WHAT [--check]
+    replay=$root/crates/$2
+    case ${4:-} in
+    '')
+        missing=$(oracle_missing)
+        [ -z "$missing" ] || { echo "$3: $missing" >&2; exit 2; }
+        oracle_cargo run --bin "$1" "$replay"
+        ;;
+    --check)
+        skip_without_oracle "$3"
+        made=$root/target/$1
+        mkdir -p "$made"
+        if oracle_cargo run --bin "$1" "$made" && cmp "$made/stdin" "$replay/stdin" && cmp "$made/stdout" "$replay/stdout"; then
+            echo "1 passed, 0 failed"
+        else
+            echo "0 passed, 1 failed"
+            exit 1
+        fi
+        ;;
+    *) echo "usage: ${0##*/} [--check]" >&2; exit 2 ;;
+    esac
 }

@@ -21,7 +21,14 @@ mod tally;
 pub use tally::{Tally, Test};
 
 pub mod arguments;
+pub mod calls;
+#[cfg(feature = "port")]
+pub mod host;
 pub mod memory;
 #[cfg(feature = "port")]
 pub mod port_table;
+pub mod states;
+pub mod stream;
+pub mod timing;
 pub mod token_calls;
+pub mod worlds;

@@ -6,6 +6,7 @@ mod port;
 mod revocation;
 mod sound;
 mod space;
+mod stream;
 mod table;
 mod token;
 mod world;
@@ -23,8 +24,9 @@ fn main() -> ExitCode {
         Some("space") => space::compare(&mut tally),
         Some("manager") => manager::compare(&mut tally),
         Some("revocation") => revocation::compare(&mut tally),
+        Some("stream") => stream::compare(&mut tally),
         _ => {
-            eprintln!("usage: compare token|table|space|manager|revocation");
+            eprintln!("usage: compare token|table|space|manager|revocation|stream");
             return ExitCode::from(2);
         }
     }

@@ -266,7 +266,7 @@ fn largest(run: &mut Run, test: &mut Test, rng: &Rng) {
 // ---- Memory that is not sound
 
 fn any_call(rng: &Rng) -> Box<dyn Call> {
-    Box::new(RevocationCall::any(rng))
+    Box::new(world::any_revocation_call(rng))
 }
 
 fn short(run: &mut Run, test: &mut Test, rng: &Rng) {

@@ -6,10 +6,11 @@ use std::ops::Range;
 use judge::layout::*;
 use judge::rng::Rng;
 use judge::worlds;
+use oracle::calls::Reply;
 use oracle::cap::space::SpaceView;
 use oracle::{memory, History, Test, View};
 
-use super::call::{Call, Made, Reply};
+use super::call::{Call, Made};
 use super::{port, Run};
 use crate::kinds;
 

@@ -1,140 +1,23 @@
-//! The port's opening, its look, and its calls of a space, of the manager and of revocation, as the crate `host`
-//! exports them.
-//!
-//! The declarations keep to what tools/native says holds on both processors: a reply of more than 16 bytes is written
-//! where the first parameter says.
+//! The port's opening, its look, a run of the request stream, and its calls of a space, of the manager and of revocation.
 
 mod revocation;
 
 use judge::layout::Numbers;
+use oracle::calls::{lent, replied, ManagerCall, Reply, SpaceCall, Words};
+pub use oracle::host::is_sound;
+use oracle::host::*;
 
 pub use self::revocation::revocation_call;
-use super::call::{lent, replied, Reply};
-use super::manager_calls::ManagerCall;
-use super::space_calls::{SpaceCall, Words};
-
-#[repr(C)]
-#[derive(Default)]
-struct CallAnswer {
-    answer: u8,
-    value: u64,
-    count: u64,
-}
-
-#[repr(C)]
-#[derive(Default)]
-struct EntryAnswer {
-    answer: u8,
-    token: u64,
-    object: u64,
-    rights: u32,
-    uses: u64,
-    visits: u64,
-}
-
-#[repr(C)]
-#[derive(Default)]
-struct StatsAnswer {
-    answer: u8,
-    hits: u64,
-    misses: u64,
-    total_caps: u64,
-}
-
-#[repr(C)]
-#[derive(Default)]
-struct ManagerAnswer {
-    answer: u8,
-    created: u64,
-    delegated: u64,
-    revoked: u64,
-    deleted: u64,
-}
-
-#[repr(C)]
-#[derive(Default)]
-struct TreeAnswer {
-    answer: u8,
-    parents: u64,
-    children: u64,
-}
-
-type Out<'a> = &'a mut CallAnswer;
-type EntryOut<'a> = &'a mut EntryAnswer;
-
-#[link(name = "host", kind = "static")]
-unsafe extern "C" {
-    fn stonespry_is_sound(mem: *const u64, length: usize) -> bool;
-    fn stonespry_open(
-        mem: *mut u64,
-        length: usize,
-        spaces: usize,
-        most: usize,
-        places: usize,
-        pairs: usize,
-        queues: usize,
-        quotas: *const u64,
-        count: usize,
-    ) -> u8;
-
-    fn stonespry_space_used(out: Out, mem: *const u64, length: usize, s: usize);
-    fn stonespry_space_quota(out: Out, mem: *const u64, length: usize, s: usize);
-    fn stonespry_space_table_capacity(out: Out, mem: *const u64, length: usize, s: usize);
-    fn stonespry_space_generation(out: Out, mem: *const u64, length: usize, s: usize);
-    fn stonespry_space_stats(out: &mut StatsAnswer, mem: *const u64, length: usize, s: usize);
-
-    fn stonespry_space_lookup(out: Out, mem: *mut u64, length: usize, s: usize, token: u64);
-    fn stonespry_space_lookup_entry(out: EntryOut, mem: *mut u64, length: usize, s: usize, token: u64);
-    fn stonespry_space_check_rights(out: Out, mem: *mut u64, length: usize, s: usize, token: u64, required: u32);
-    fn stonespry_space_get_entry(out: EntryOut, mem: *const u64, length: usize, s: usize, id: u64);
-    fn stonespry_space_nth_entry(out: EntryOut, mem: *const u64, length: usize, s: usize, n: usize);
-
-    fn stonespry_space_insert(out: Out, mem: *mut u64, length: usize, s: usize, token: u64, object: u64, rights: u32);
-    fn stonespry_space_remove(out: Out, mem: *mut u64, length: usize, s: usize, token: u64);
-    fn stonespry_space_increment_generation(out: Out, mem: *mut u64, length: usize, s: usize);
-    fn stonespry_space_clear(out: Out, mem: *mut u64, length: usize, s: usize);
-    fn stonespry_space_revoke_all(out: Out, mem: *mut u64, length: usize, s: usize);
-    fn stonespry_space_copy(out: Out, mem: *mut u64, length: usize, target: usize, source: usize);
-
-    fn stonespry_alloc_cap_id(out: Out, mem: *mut u64, length: usize);
-    fn stonespry_space_create_capability(out: Out, mem: *mut u64, length: usize, s: usize, rights: u32, object: u64);
-    fn stonespry_space_revoke(out: Out, mem: *mut u64, length: usize, s: usize, id: u64);
-
-    fn stonespry_create_capability(
-        out: Out,
-        mem: *mut u64,
-        length: usize,
-        s: usize,
-        object: u64,
-        valid: bool,
-        cap_type: u8,
-        rights: u32,
-    );
-    fn stonespry_delegate(
-        out: Out,
-        mem: *mut u64,
-        length: usize,
-        token: u64,
-        source: usize,
-        target: usize,
-        rights: u32,
-    );
-    fn stonespry_delete(out: Out, mem: *mut u64, length: usize, token: u64);
-    fn stonespry_check_capability(out: Out, mem: *mut u64, length: usize, token: u64, required: u32, s: usize);
-    fn stonespry_is_valid(out: Out, mem: *const u64, length: usize, token: u64);
-    fn stonespry_manager_stats(out: &mut ManagerAnswer, mem: *const u64, length: usize);
-    fn stonespry_get_children(out: Out, mem: *const u64, length: usize, id: u64, area: *mut u64, places: usize);
-    fn stonespry_derivation_tree_stats(out: &mut TreeAnswer, mem: *const u64, length: usize);
-    fn stonespry_space_census(out: Out, mem: *const u64, length: usize, s: usize);
-}
-
-pub fn is_sound(mem: &[u64]) -> bool {
-    // SAFETY: here and below, the port reads and writes so many words from there, and no others.
-    unsafe { stonespry_is_sound(mem.as_ptr(), mem.len()) }
-}
 
 pub fn open(mem: &mut [u64], Numbers { s, m, r, v, p }: Numbers, quotas: &[u64]) -> u8 {
+    // SAFETY: here and below, the port reads and writes so many words from there, and no others.
     unsafe { stonespry_open(mem.as_mut_ptr(), mem.len(), s, m, r, v, p, quotas.as_ptr(), quotas.len()) }
+}
+
+pub fn run(records: &[u8], mem: &mut [u64], lines: &mut [u8]) -> Reply {
+    let (records, count) = (records.as_ptr(), records.len());
+    let (mem, length, lines, places) = (mem.as_mut_ptr(), mem.len(), lines.as_mut_ptr(), lines.len());
+    reply(|out| unsafe { stonespry_run(out, records, count, mem, length, lines, places) })
 }
 
 pub fn space_call(mem: &mut [u64], call: SpaceCall, [s, a, b, c]: Words) -> Reply {

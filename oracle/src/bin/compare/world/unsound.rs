@@ -4,9 +4,10 @@
 use judge::damage::Target;
 use judge::layout::*;
 use judge::rng::Rng;
+use oracle::calls::{lent, refused, Reply};
 use oracle::Test;
 
-use super::call::{lent, refused, Call, Reply};
+use super::call::Call;
 use super::{port, some_numbers, Run};
 
 /// Makes any call with any arguments.

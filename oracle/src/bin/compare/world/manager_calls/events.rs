@@ -4,10 +4,10 @@
 use std::collections::HashSet;
 
 use judge::layout::{id_of, ID_END, MOST_CHILDREN};
+use oracle::calls::ManagerCall::{self, *};
+use oracle::states::{entries, has_entry, has_older_entry, is_full, is_revoked, list, registered};
 
-use super::ManagerCall::{self, *};
 use crate::world::call::{Event, Made};
-use crate::world::states::{entries, has_entry, has_older_entry, is_full, is_revoked, list, registered};
 
 pub fn of(call: ManagerCall, made: &Made) -> Vec<Event> {
     match call {

@@ -1,70 +1,10 @@
 //! The port's calls of revocation.
 
-use super::{in_area, reply, Out};
-use crate::world::call::{replied, Reply};
-use crate::world::revocation_calls::{lent_bytes, Kernel, RevocationCall};
+use oracle::calls::revocation::lent_bytes;
+use oracle::calls::{replied, Kernel, Reply, RevocationCall};
+use oracle::host::*;
 
-#[repr(C)]
-#[derive(Default)]
-struct QueuesAnswer {
-    answer: u8,
-    processes: u64,
-    notifications: u64,
-}
-
-#[link(name = "host", kind = "static")]
-unsafe extern "C" {
-    fn stonespry_revoke(
-        out: Out,
-        mem: *mut u64,
-        length: usize,
-        token: u64,
-        time: u64,
-        listed: *const u64,
-        count: usize,
-    );
-    fn stonespry_revoke_capability(
-        out: Out,
-        mem: *mut u64,
-        length: usize,
-        token: u64,
-        time: u64,
-        listed: *const u64,
-        count: usize,
-    );
-    fn stonespry_revoke_held(
-        out: Out,
-        mem: *mut u64,
-        length: usize,
-        s: usize,
-        token: u64,
-        time: u64,
-        listed: *const u64,
-        count: usize,
-    );
-    fn stonespry_revoke_batch(
-        out: Out,
-        mem: *mut u64,
-        length: usize,
-        tokens: *const u64,
-        batch: usize,
-        time: u64,
-        listed: *const u64,
-        count: usize,
-    );
-
-    fn stonespry_is_revoked(out: Out, mem: *const u64, length: usize, token: u64);
-    fn stonespry_epoch(out: Out, mem: *const u64, length: usize);
-    fn stonespry_get_derivation_tree(out: Out, mem: *const u64, length: usize, id: u64, area: *mut u64, places: usize);
-
-    fn stonespry_notify_process(out: Out, mem: *mut u64, length: usize, pid: u64, id: u64, reason: u8, time: u64);
-    fn stonespry_drain_notifications(out: Out, mem: *mut u64, length: usize, pid: u64, area: *mut u64, places: usize);
-    fn stonespry_peek_notifications(out: Out, mem: *const u64, length: usize, pid: u64, area: *mut u64, places: usize);
-    fn stonespry_notification_count(out: Out, mem: *const u64, length: usize, pid: u64);
-    fn stonespry_cleanup_process_notifications(out: Out, mem: *mut u64, length: usize, pid: u64);
-    fn stonespry_notification_stats(out: &mut QueuesAnswer, mem: *const u64, length: usize);
-    fn stonespry_write_reason(out: Out, reason: u8, area: *mut u8, places: usize);
-}
+use super::{in_area, reply};
 
 pub fn revocation_call(mem: &mut [u64], call: &RevocationCall) -> Reply {
     let (m, n) = (mem.as_mut_ptr(), mem.len());

@@ -4,12 +4,12 @@
 use std::collections::{BTreeMap, BTreeSet, HashSet};
 
 use judge::layout::{id_of, ID_END, NOTICES};
+use oracle::calls::revocation::{Kernel, MOST_LISTED, MOST_TOKENS};
+use oracle::calls::RevocationCall::{self, *};
+use oracle::states::{entries, is_revoked, list, registered};
 use oracle::View;
 
-use super::RevocationCall::{self, *};
-use super::{Kernel, MOST_LISTED, MOST_TOKENS};
 use crate::world::call::{Event, Made};
-use crate::world::states::{entries, is_revoked, list, registered};
 
 pub fn of(call: &RevocationCall, made: &Made) -> Vec<Event> {
     match call {

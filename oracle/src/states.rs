@@ -1,9 +1,10 @@
 //! What a state says of an id and of a space.
 
 use judge::layout::id_of;
-use oracle::cap::manager::RegisteredView;
-use oracle::cap::space::{EntryView, SlotView};
-use oracle::View;
+
+use crate::cap::manager::RegisteredView;
+use crate::cap::space::{EntryView, SlotView};
+use crate::View;
 
 pub fn registered(view: &View, id: u64) -> Option<&RegisteredView> {
     let registry = &view.manager.registry;
