@@ -2,5 +2,6 @@
 pub mod Answered
 pub mod Spaces
 pub mod Replies
+pub mod RepliesLaws
 pub mod Manager
 pub mod Revocation

@@ -6,5 +6,6 @@ mod replies;
 mod revocation;
 mod rights;
 mod spaces;
+mod stream;
 mod tokens;
 mod worlds;

@@ -64,7 +64,10 @@ pub extern "C" fn stonespry_create_capability(
     cap_type: u8,
     rights: u32,
 ) -> CallAnswer
-    ensures { λ r. ⌜ record { reply = r; memory = now (mem .exit) } ≡ told callAnswer (createOut (now (mem .entry)) s object valid «cap_type» rights) ⌝ }
+    ensures { λ r. ⌜
+        record { reply = r; memory = now (mem .exit) }
+        ≡ told callAnswer (createOut (now (mem .entry)) s object valid «cap_type» rights)
+        ⌝ }
 {
     answered(manager_calls::create_capability(mem, s, object, valid, cap_type, Rights(rights)))
 }
@@ -77,7 +80,10 @@ pub extern "C" fn stonespry_delegate(
     target: usize,
     rights: u32,
 ) -> CallAnswer
-    ensures { λ r. ⌜ record { reply = r; memory = now (mem .exit) } ≡ told callAnswer (delegateOut (now (mem .entry)) token source target rights) ⌝ }
+    ensures { λ r. ⌜
+        record { reply = r; memory = now (mem .exit) }
+        ≡ told callAnswer (delegateOut (now (mem .entry)) token source target rights)
+        ⌝ }
 {
     answered(manager_calls::delegate(mem, CapabilityToken(token), source, target, Rights(rights)))
 }
@@ -119,7 +125,10 @@ pub extern "C" fn stonespry_manager_stats(mem: &[u64]) -> ManagerAnswer
 
 #[no_mangle]
 pub extern "C" fn stonespry_get_children(mem: &[u64], id: u64, area: &mut [u64]) -> CallAnswer
-    ensures { λ r. ⌜ record { reply = r; area = now (area .exit) } ≡ listedAnswer (childrenOut (now (mem .entry)) id (now (area .entry))) ⌝ }
+    ensures { λ r. ⌜
+        record { reply = r; area = now (area .exit) }
+        ≡ listedAnswer (childrenOut (now (mem .entry)) id (now (area .entry)))
+        ⌝ }
 {
     answered(manager_calls::get_children(mem, id, area))
 }

@@ -37,7 +37,10 @@ pub extern "C" fn stonespry_revoke(
     time: u64,
     listed: &[u64],
 ) -> CallAnswer
-    ensures { λ r. ⌜ record { reply = r; memory = now (mem .exit) } ≡ told callAnswer (revokeOut (now (mem .entry)) token time (now (listed .entry))) ⌝ }
+    ensures { λ r. ⌜
+        record { reply = r; memory = now (mem .exit) }
+        ≡ told callAnswer (revokeOut (now (mem .entry)) token time (now (listed .entry)))
+        ⌝ }
 {
     answered(revocation_calls::revoke(mem, CapabilityToken(token), time, listed))
 }
@@ -49,7 +52,10 @@ pub extern "C" fn stonespry_revoke_capability(
     time: u64,
     listed: &[u64],
 ) -> CallAnswer
-    ensures { λ r. ⌜ record { reply = r; memory = now (mem .exit) } ≡ told callAnswer (revokeCapabilityOut (now (mem .entry)) token time (now (listed .entry))) ⌝ }
+    ensures { λ r. ⌜
+        record { reply = r; memory = now (mem .exit) }
+        ≡ told callAnswer (revokeCapabilityOut (now (mem .entry)) token time (now (listed .entry)))
+        ⌝ }
 {
     answered(revocation_calls::revoke_capability(mem, CapabilityToken(token), time, listed))
 }
@@ -62,7 +68,10 @@ pub extern "C" fn stonespry_revoke_held(
     time: u64,
     listed: &[u64],
 ) -> CallAnswer
-    ensures { λ r. ⌜ record { reply = r; memory = now (mem .exit) } ≡ told callAnswer (revokeHeldOut (now (mem .entry)) s token time (now (listed .entry))) ⌝ }
+    ensures { λ r. ⌜
+        record { reply = r; memory = now (mem .exit) }
+        ≡ told callAnswer (revokeHeldOut (now (mem .entry)) s token time (now (listed .entry)))
+        ⌝ }
 {
     answered(revocation_calls::revoke_held(mem, s, CapabilityToken(token), time, listed))
 }
@@ -74,7 +83,10 @@ pub extern "C" fn stonespry_revoke_batch(
     time: u64,
     listed: &[u64],
 ) -> CallAnswer
-    ensures { λ r. ⌜ record { reply = r; memory = now (mem .exit) } ≡ told callAnswer (revokeBatchOut (now (mem .entry)) (now (tokens .entry)) time (now (listed .entry))) ⌝ }
+    ensures { λ r. ⌜
+        record { reply = r; memory = now (mem .exit) }
+        ≡ told callAnswer (revokeBatchOut (now (mem .entry)) (now (tokens .entry)) time (now (listed .entry)))
+        ⌝ }
 {
     answered(revocation_calls::revoke_batch(mem, tokens, time, listed))
 }
@@ -101,7 +113,10 @@ pub extern "C" fn stonespry_get_derivation_tree(
     id: u64,
     area: &mut [u64],
 ) -> CallAnswer
-    ensures { λ r. ⌜ record { reply = r; area = now (area .exit) } ≡ listedAnswer (descendantsOut (now (mem .entry)) id (now (area .entry))) ⌝ }
+    ensures { λ r. ⌜
+        record { reply = r; area = now (area .exit) }
+        ≡ listedAnswer (descendantsOut (now (mem .entry)) id (now (area .entry)))
+        ⌝ }
 {
     answered(revocation_calls::get_derivation_tree(mem, id, area))
 }
@@ -116,7 +131,10 @@ pub extern "C" fn stonespry_notify_process(
     reason: u8,
     time: u64,
 ) -> CallAnswer
-    ensures { λ r. ⌜ record { reply = r; memory = now (mem .exit) } ≡ told callAnswer (notifyOut (now (mem .entry)) pid id «reason» time) ⌝ }
+    ensures { λ r. ⌜
+        record { reply = r; memory = now (mem .exit) }
+        ≡ told callAnswer (notifyOut (now (mem .entry)) pid id «reason» time)
+        ⌝ }
 {
     answered(revocation_calls::notify_process(mem, pid, id, reason, time))
 }
@@ -127,7 +145,10 @@ pub extern "C" fn stonespry_drain_notifications(
     pid: u64,
     area: &mut [u64],
 ) -> CallAnswer
-    ensures { λ r. ⌜ record { reply = record { reply = r; area = now (area .exit) }; memory = now (mem .exit) } ≡ told listedAnswer (drainOut (now (mem .entry)) pid (now (area .entry))) ⌝ }
+    ensures { λ r. ⌜
+        record { reply = record { reply = r; area = now (area .exit) }; memory = now (mem .exit) }
+        ≡ told listedAnswer (drainOut (now (mem .entry)) pid (now (area .entry)))
+        ⌝ }
 {
     answered(revocation_calls::drain_notifications(mem, pid, area))
 }

@@ -119,7 +119,10 @@ pub extern "C" fn stonespry_space_check_rights(
     token: u64,
     required: u32,
 ) -> CallAnswer
-    ensures { λ r. ⌜ record { reply = r; memory = now (mem .exit) } ≡ told callAnswer (checkRightsOut (now (mem .entry)) s token required) ⌝ }
+    ensures { λ r. ⌜
+        record { reply = r; memory = now (mem .exit) }
+        ≡ told callAnswer (checkRightsOut (now (mem .entry)) s token required)
+        ⌝ }
 {
     answered(space_calls::check_rights(mem, s, CapabilityToken(token), Rights(required)))
 }
@@ -148,7 +151,10 @@ pub extern "C" fn stonespry_space_insert(
     object: u64,
     rights: u32,
 ) -> CallAnswer
-    ensures { λ r. ⌜ record { reply = r; memory = now (mem .exit) } ≡ told callAnswer (insertCallOut (now (mem .entry)) s token object rights) ⌝ }
+    ensures { λ r. ⌜
+        record { reply = r; memory = now (mem .exit) }
+        ≡ told callAnswer (insertCallOut (now (mem .entry)) s token object rights)
+        ⌝ }
 {
     answered(space_calls::insert(mem, s, CapabilityToken(token), object, Rights(rights)))
 }

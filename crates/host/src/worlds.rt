@@ -24,7 +24,11 @@ pub extern "C" fn stonespry_open(
     queues: usize,
     quotas: &[u64],
 ) -> u8
-    ensures { λ r. ⌜ record { answer = r; memory = now (mem .exit) } ≡ numbered (opening (record { spaces = spaces; most = most; places = places; pairs = pairs; queues = queues }) (now (quotas .entry)) (now (mem .entry))) ⌝ }
+    ensures { λ r. ⌜
+        record { answer = r; memory = now (mem .exit) }
+        ≡ numbered
+        (opening (record { spaces = spaces; most = most; places = places; pairs = pairs; queues = queues }) (now (quotas .entry)) (now (mem .entry)))
+        ⌝ }
 {
     let d = Numbers {
         spaces,

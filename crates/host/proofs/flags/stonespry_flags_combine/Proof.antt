@@ -1,5 +1,4 @@
 -- `stonespry_flags_combine` meets its contract: each arm's answer is the definition's for the arm's case.
--- Assumes nothing.
 use Prim.Native.Nat.{ℕ}
 use mathlib.Core.Path.{_≡_, sym, _∙_}
 use borrow.Author.Needs.{needs}
@@ -23,10 +22,4 @@ ruleset laws = (needs, given, refused)
 pub stonespry-flags-combine-spec : {M : Type 1} → statement M
 stonespry-flags-combine-spec =
     tie.close
-    (tie.spec
-    (λ c κs. search laws)
-    (λ c. search laws)
-    (λ c. search laws)
-    (λ c κs. search laws)
-    (λ c. search laws)
-    (λ c. search laws))
+    (tie.spec (λ c κs. search laws) (λ c. search laws) (λ c. search laws) (λ c κs. search laws) (λ c. search laws) (λ c. search laws))

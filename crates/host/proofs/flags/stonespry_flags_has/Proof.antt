@@ -1,5 +1,4 @@
 -- `stonespry_flags_has` meets its contract: each arm's answer is the definition's for the arm's case.
--- Assumes nothing.
 use Prim.Native.Nat.{ℕ}
 use mathlib.Core.Bool.{Bool, false}
 use mathlib.Core.Path.{_≡_, sym, _∙_}
@@ -26,11 +25,5 @@ ruleset laws = (needs, given, refused)
 pub stonespry-flags-has-spec : {M : Type 1} → statement M
 stonespry-flags-has-spec =
     tie.close
-    (tie.spec
-    (λ c κs. search laws)
-    (λ c. search laws)
-    (λ c κs. search laws)
-    (λ c. search laws)
-    (λ c κs. search laws)
-    (λ c. search laws)
+    (tie.spec (λ c κs. search laws) (λ c. search laws) (λ c κs. search laws) (λ c. search laws) (λ c κs. search laws) (λ c. search laws)
     (λ c. search laws))

@@ -1,5 +1,4 @@
 -- `answered` meets its contract: the answer by its number, the rest field by field.
--- Assumes nothing.
 use borrow.Author.Needs.{needs}
 use Rattle.host.proofs.replies.answered.Statement.{statement}
 use Rattle.host.proofs.replies.answered.Tie as tie
@@ -7,6 +6,4 @@ use Rattle.host.proofs.replies.answered.Tie as tie
 pub answered-spec : {M : Type 1} → statement M
 answered-spec =
     tie.close
-    (tie.spec
-    (λ c κs. search needs)
-    (λ c. cc))
+    (tie.spec (λ c κs. search needs) (λ c. cc))

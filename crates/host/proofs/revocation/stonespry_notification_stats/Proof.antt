@@ -1,5 +1,4 @@
 -- `stonespry_notification_stats` meets its contract: the call's reply, seen so.
--- Assumes nothing.
 use borrow.Author.Needs.{needs}
 use Rattle.host.proofs.revocation.stonespry_notification_stats.Statement.{statement}
 use Rattle.host.proofs.revocation.stonespry_notification_stats.Tie as tie
@@ -7,7 +6,4 @@ use Rattle.host.proofs.revocation.stonespry_notification_stats.Tie as t
 pub stonespry-notification-stats-spec : {M : Type 1} → statement M
 stonespry-notification-stats-spec =
     tie.close
-    (tie.spec
-    (λ c κs. search needs)
-    (λ c κs. search needs)
-    (λ c. cc))
+    (tie.spec (λ c κs. search needs) (λ c κs. search needs) (λ c. cc))

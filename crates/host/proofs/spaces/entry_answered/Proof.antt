@@ -1,5 +1,4 @@
 -- `entry_answered` meets its contract: the answer by its number, the rest field by field.
--- Assumes nothing.
 use borrow.Author.Needs.{needs}
 use Rattle.host.proofs.spaces.entry_answered.Statement.{statement}
 use Rattle.host.proofs.spaces.entry_answered.Tie as tie
@@ -7,6 +6,4 @@ use Rattle.host.proofs.spaces.entry_answered.Tie as tie
 pub entry-answered-spec : {M : Type 1} → statement M
 entry-answered-spec =
     tie.close
-    (tie.spec
-    (λ c κs. search needs)
-    (λ c. cc))
+    (tie.spec (λ c κs. search needs) (λ c. cc))
