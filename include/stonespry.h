@@ -9,8 +9,9 @@
  * Answers. A struct's `answer` is one of the numbers below; `value` and `count` are said beside each function and are 0 where nothing is
  * said. A refusal has the value 0 and changes nothing, but: a lookup made on the way stays counted; a collection stays done; a delegate
  * given 4 leaves the parent a list; an id that create or delegate took is recycled, also on 22; an id that a space-made create took is
- * lost if its insert is refused. A struct of more than 16 bytes is written to `out`, the first parameter, which need not be set before:
- * so these declarations are right on x86-64 and on Arm, whose ways to return such a struct differ.
+ * lost if its insert is refused. Words that docs/LAYOUT.md gives no meaning, as those of a registry place that is not in use, may change
+ * in these cases. A struct of more than 16 bytes is written to `out`, the first parameter, which need not be set before: so these
+ * declarations are right on x86-64 and on Arm, whose ways to return such a struct differ.
  *
  * What is proved: on every argument and every content of the areas each call ends, with the answer and the memory of its definition,
  * and touches nothing but the areas and `out`. Words that the program changed between calls are no misuse: the call looks first, and
@@ -79,9 +80,9 @@ enum {
     STONESPRY_POLICY_ENFORCED = 3
 };
 
-/* The words that a world needs, exactly; constant for constant arguments, some of which it reads twice. `spaces` 1 to 64, `most` 1 to
- * 256 (the largest quota), `places` 1 to 4,095 (registered ids), `pairs` 1 to 8,192 (revocations logged), `queues` 1 to 32 (processes
- * with notices). */
+/* The words that a world needs, exactly; constant for constant arguments, some of which it reads twice. `spaces` (S) 1 to 64, `most` (M)
+ * 1 to 256, the largest quota, `places` (R) 1 to 4,095, registered ids, `pairs` (V) 1 to 8,192, revocations logged, `queues` (P) 1 to 32,
+ * processes with notices. */
 #define STONESPRY_LENGTH(spaces, most, places, pairs, queues) \
     (16 + (spaces) * (8 + 4 * STONESPRY_SLOTS(most)) + (5 * (places) + 1) + (pairs) + 771 * (queues))
 
