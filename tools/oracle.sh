@@ -40,7 +40,8 @@ skip_without_oracle() { # WHAT
 oracle_cargo() { # COMMAND WORDS.., by the profile in $profile, else release, in the folder $built, else target/cargo
     command=$1
     shift
-    CARGO_TARGET_DIR=${built:-$root/target/cargo} cargo "$command" --quiet --profile "${profile:-release}" --locked --offline --manifest-path "$root/oracle/Cargo.toml" "$@"
+    CARGO_TARGET_DIR=${built:-$root/target/cargo} cargo "$command" --quiet --profile "${profile:-release}" --locked --offline \
+        --manifest-path "$root/oracle/Cargo.toml" "$@"
 }
 
 # A fixed list of the original's answers, which the program BINARY writes: into the crate that replays it, or with --check into target/, to

@@ -1,4 +1,4 @@
-// The request stream for a host: a whole run over records that the host has read, on memory that it lends; what `stream`, the program, does.
+// The request stream for a host: a whole run over records that the host has read, on memory that it lends, as the program `stream` does it.
 ghost use mathlib.Core.Path.{_≡_};
 ghost use Rattle.request.specs.Run.{runOut};
 ghost use Rattle.host.specs.Replies.{told, listedAnswer};

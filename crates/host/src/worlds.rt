@@ -27,7 +27,8 @@ pub extern "C" fn stonespry_open(
     ensures { λ r. ⌜
         record { answer = r; memory = now (mem .exit) }
         ≡ numbered
-        (opening (record { spaces = spaces; most = most; places = places; pairs = pairs; queues = queues }) (now (quotas .entry)) (now (mem .entry)))
+        (opening (record { spaces = spaces; most = most; places = places; pairs = pairs; queues = queues })
+        (now (quotas .entry)) (now (mem .entry)))
         ⌝ }
 {
     let d = Numbers {

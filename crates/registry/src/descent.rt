@@ -36,8 +36,8 @@ fn list_each(rg: &[u64], places: usize, n: usize, firsts: &mut [u16], nexts: &mu
     }
 }
 
-// The places of a list, from the one that `head` names on, go behind the first `count` of `order`, as many as there is room for. Answers how
-// many there are then.
+// The places of a list, from the one that `head` names on, go behind the first `count` of `order`, as many as there is room for. Answers
+// how many there are then.
 fn append(nexts: &[u16], head: u16, order: &mut [u16], count: usize) -> usize
     requires { ⌜ (head ≤ length (now nexts)) × (length (now nexts) ≤ 4096) × (count ≤ length (now order)) ⌝ }
     requires { ⌜ AtMost (length (now nexts)) (now nexts) ⌝ }
