@@ -5,8 +5,9 @@ use Rattle.answers.specs.declared.Answer.{Answer}
 use Rattle.manager_calls.specs.Calls as manager
 use Rattle.manager_calls.specs.declared.StatsReply.{StatsReply}
 use Rattle.manager_calls.specs.declared.TreeReply.{TreeReply}
+use Rattle.notification_calls.specs.Calls as notification
+use Rattle.notification_calls.specs.declared.QueuesReply.{QueuesReply}
 use Rattle.revocation_calls.specs.Calls as revocation
-use Rattle.revocation_calls.specs.declared.QueuesReply.{QueuesReply}
 use Rattle.space_calls.specs.Calls as space
 use Rattle.space_calls.specs.declared.EntryReply.{EntryReply}
 use Rattle.space_calls.specs.declared.StatsReply.{StatsReply as SpaceStatsReply}
@@ -56,9 +57,9 @@ read (census s) mem = plain (manager.censusOut mem s)
 read (is-revoked token) mem = plain (revocation.isRevokedOut mem token)
 read epoch mem = plain (revocation.epochOut mem)
 read (get-derivation-tree id area) mem = list (revocation.descendantsOut mem id area)
-read (peek-notifications pid area) mem = list (revocation.peekOut mem pid area)
-read (notification-count pid) mem = plain (revocation.notificationCountOut mem pid)
-read notification-stats mem = queues (revocation.notificationStatsOut mem)
+read (peek-notifications pid area) mem = list (notification.peekOut mem pid area)
+read (notification-count pid) mem = plain (notification.notificationCountOut mem pid)
+read notification-stats mem = queues (notification.notificationStatsOut mem)
 
 unfoldable pub accept : Accepting → List ℕ → Left Reply
 accept (space-insert s token object rights fits) mem = space.insertCallOut mem s token object rights
@@ -87,9 +88,9 @@ change (revoke token time listed) mem = told plain (revocation.revokeOut mem tok
 change (revoke-capability token time listed) mem = told plain (revocation.revokeCapabilityOut mem token time listed)
 change (revoke-held s token time listed) mem = told plain (revocation.revokeHeldOut mem s token time listed)
 change (revoke-batch tokens time listed) mem = told plain (revocation.revokeBatchOut mem tokens time listed)
-change (notify-process pid id reason time) mem = told plain (revocation.notifyOut mem pid id reason time)
-change (drain-notifications pid area) mem = told list (revocation.drainOut mem pid area)
-change (cleanup-process-notifications pid) mem = told plain (revocation.cleanupOut mem pid)
+change (notify-process pid id reason time) mem = told plain (notification.notifyOut mem pid id reason time)
+change (drain-notifications pid area) mem = told list (notification.drainOut mem pid area)
+change (cleanup-process-notifications pid) mem = told plain (notification.cleanupOut mem pid)
 
 unfoldable pub perform : Call → List ℕ → Left Answered
 perform (open-world d quotas) mem =

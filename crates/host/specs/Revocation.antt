@@ -1,6 +1,6 @@
 -- The statistics of the notifications as a host sees them: the answer by its number, all else as it is.
 use Rattle.answers.specs.Number.{numberOf}
-use Rattle.revocation_calls.specs.declared.QueuesReply.{QueuesReply}
+use Rattle.notification_calls.specs.declared.QueuesReply.{QueuesReply}
 use Rattle.host.specs.declared.revocation.QueuesAnswer.{QueuesAnswer}
 
 abbrev pub queuesAnswer : QueuesReply → QueuesAnswer

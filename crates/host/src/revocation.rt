@@ -1,12 +1,14 @@
-// The calls of revocation for a host: the memory, the process list and the tokens of a batch are slices of words that the host lends, a
-// token its word. Each is the call of the same name in `revocation_calls`, with its answer as a number.
+// The calls of revocation and those for notifications, for a host: the memory, the process list and the tokens of a batch are slices of
+// words that the host lends, a token its word. Each is the call of the same name in `revocation_calls` or `notification_calls`, with its
+// answer as a number.
 ghost use mathlib.Core.Path.{_≡_};
-ghost use Rattle.revocation_calls.specs.Calls.{revokeOut, revokeCapabilityOut, revokeHeldOut, revokeBatchOut, isRevokedOut, epochOut, descendantsOut, notifyOut, drainOut, peekOut, notificationCountOut, cleanupOut, notificationStatsOut, reasonOut};
+ghost use Rattle.notification_calls.specs.Calls.{notifyOut, drainOut, peekOut, notificationCountOut, cleanupOut, notificationStatsOut};
+ghost use Rattle.revocation_calls.specs.Calls.{revokeOut, revokeCapabilityOut, revokeHeldOut, revokeBatchOut, isRevokedOut, epochOut, descendantsOut, reasonOut};
 ghost use Rattle.host.specs.Replies.{callAnswer, told, listedAnswer};
 ghost use Rattle.host.specs.Revocation.{queuesAnswer};
 use super::replies::CallAnswer;
 use super::replies::answered;
-use revocation_calls::QueuesReply;
+use notification_calls::QueuesReply;
 use token::CapabilityToken;
 
 // The answer's number, how many processes have notifications, and how many notifications there are.
@@ -136,7 +138,7 @@ pub extern "C" fn stonespry_notify_process(
         ≡ told callAnswer (notifyOut (now (mem .entry)) pid id «reason» time)
         ⌝ }
 {
-    answered(revocation_calls::notify_process(mem, pid, id, reason, time))
+    answered(notification_calls::notify_process(mem, pid, id, reason, time))
 }
 
 #[no_mangle]
@@ -150,7 +152,7 @@ pub extern "C" fn stonespry_drain_notifications(
         ≡ told listedAnswer (drainOut (now (mem .entry)) pid (now (area .entry)))
         ⌝ }
 {
-    answered(revocation_calls::drain_notifications(mem, pid, area))
+    answered(notification_calls::drain_notifications(mem, pid, area))
 }
 
 #[no_mangle]
@@ -161,28 +163,28 @@ pub extern "C" fn stonespry_peek_notifications(
 ) -> CallAnswer
     ensures { λ r. ⌜ record { reply = r; area = now (area .exit) } ≡ listedAnswer (peekOut (now (mem .entry)) pid (now (area .entry))) ⌝ }
 {
-    answered(revocation_calls::peek_notifications(mem, pid, area))
+    answered(notification_calls::peek_notifications(mem, pid, area))
 }
 
 #[no_mangle]
 pub extern "C" fn stonespry_notification_count(mem: &[u64], pid: u64) -> CallAnswer
     ensures { λ r. ⌜ r ≡ callAnswer (notificationCountOut (now (mem .entry)) pid) ⌝ }
 {
-    answered(revocation_calls::notification_count(mem, pid))
+    answered(notification_calls::notification_count(mem, pid))
 }
 
 #[no_mangle]
 pub extern "C" fn stonespry_cleanup_process_notifications(mem: &mut [u64], pid: u64) -> CallAnswer
     ensures { λ r. ⌜ record { reply = r; memory = now (mem .exit) } ≡ told callAnswer (cleanupOut (now (mem .entry)) pid) ⌝ }
 {
-    answered(revocation_calls::cleanup_process_notifications(mem, pid))
+    answered(notification_calls::cleanup_process_notifications(mem, pid))
 }
 
 #[no_mangle]
 pub extern "C" fn stonespry_notification_stats(mem: &[u64]) -> QueuesAnswer
     ensures { λ r. ⌜ r ≡ queuesAnswer (notificationStatsOut (now (mem .entry))) ⌝ }
 {
-    queues_answered(revocation_calls::notification_stats(mem))
+    queues_answered(notification_calls::notification_stats(mem))
 }
 
 // The name of a reason; the area is bytes.

@@ -11,6 +11,7 @@ use Rattle.answers.specs.declared.Answer.the-variants.{BadField}
 use Rattle.base.specs.Choose.{pick, when}
 use Rattle.base.specs.Written.{written}
 use Rattle.manager_calls.specs.Calls as manager
+use Rattle.notification_calls.specs.Calls as notification
 use Rattle.revocation_calls.specs.Calls as revocation
 use Rattle.space_calls.specs.Calls as space
 use Rattle.steps.specs.Replies.{Left, Listed, done, refusal, refuse}
@@ -40,7 +41,7 @@ pids = 1 ∷ 2 ∷ []
 -- 14 drain (A pid), to an area of its own for 256 notices.
 unfoldable pub drained : ℕ → List ℕ → Left Reply
 drained pid mem =
-    let out = revocation.drainOut mem pid (replicate 768 0) in
+    let out = notification.drainOut mem pid (replicate 768 0) in
     record { reply = out .reply .reply; memory = out .memory }
 
 -- 1 create, 2 delegate, 3 lookup, 4 check, 5 remove.

@@ -21,7 +21,7 @@ fn drain(mem: &mut [u64], pid: u64) -> Reply
     ensures { λ r. ⌜ record { reply = r; memory = now (mem .exit) } ≡ drained pid (now (mem .entry)) ⌝ }
 {
     let mut area = [0u64; 768];
-    revocation_calls::drain_notifications(mem, pid, &mut area)
+    notification_calls::drain_notifications(mem, pid, &mut area)
 }
 
 // Create, delegate, lookup, check, remove.

@@ -1,4 +1,3 @@
 -- What the proofs of `revocation_calls` share.
 pub mod laws
 pub mod Pairs
-pub mod Noticing

@@ -1,10 +1,11 @@
-// What revocation says of itself: whether a token is in the log, the epoch, and the descendants of an id.
+// What revocation says of itself: whether a token is in the log, the epoch, the descendants of an id, and the names of its reasons.
 ghost use mathlib.Core.Path.{_≡_};
 ghost use Prim.Native.Nat.{_<_};
 ghost use Rattle.world.specs.Numbers.{registeredOf};
 ghost use Rattle.world.specs.Sound.{SoundAt};
-ghost use Rattle.revocation_calls.specs.Calls.{isRevokedOut, epochOut, descendants, listedIn, descendantsOut};
+ghost use Rattle.revocation_calls.specs.Calls.{isRevokedOut, epochOut, descendants, listedIn, descendantsOut, reasonOut};
 use answers::Answer;
+use revocation::reason_of;
 use revocation_steps::descent::descend;
 use revocation_steps::descent::ids_at;
 use revocation_steps::log::has_pair;
@@ -75,4 +76,18 @@ pub fn get_derivation_tree(mem: &[u64], id: u64, area: &mut [u64]) -> Reply
             done(0)
         }
     }
+}
+
+// Writes the name of a reason, by its number, to the front of the area; the value is its length.
+pub fn write_reason(reason: u8, area: &mut [u8]) -> Reply
+    ensures { λ r. ⌜ record { reply = r; area = now (area .exit) } ≡ reasonOut «reason» (now (area .entry)) ⌝ }
+{
+    if 3 < reason {
+        return refusal(Answer::BadField);
+    }
+    let name = reason_of(reason);
+    if area.len() < name.name_length() {
+        return refusal(Answer::BadField);
+    }
+    done(revocation::write_reason(name, area) as u64)
 }

@@ -1,2 +1,2 @@
--- What is promised of the calls of revocation.
+-- What is promised of the calls of revocation and of those for notifications.
 pub mod laws

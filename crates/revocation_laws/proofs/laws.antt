@@ -1,4 +1,4 @@
--- Laws of the calls of revocation, from their definitions alone.
+-- Laws of the calls of revocation and of those for notifications, from their definitions alone.
 pub mod Ways
 pub mod NoticeWays
 pub mod Counted

@@ -6,6 +6,7 @@ use Rattle.base.specs.Distinct.{isNew, differTest}
 use Rattle.base.specs.Written.{written}
 use Rattle.manager_calls.specs.Calls.{createOut, delegateOut, checkOut}
 use Rattle.manager_calls.specs.Delegation.{admitted, offeredFrom, withId, withRoom}
+use Rattle.notification_calls.specs.Calls.{drainOut}
 use Rattle.registry.specs.Children.{childPlacesFrom, childPlaces, idsAt}
 use Rattle.registry.specs.Descent.{descendedFrom, descent, unrevokedOf, marked}
 use Rattle.registry.specs.Holders.{placeOf, held}
@@ -20,7 +21,7 @@ use Rattle.request.specs.Run.{drained, called1To5, called6To10, called11To15, c
 use Rattle.revocation.specs.Log.{logHas, absentOf, appended}
 use Rattle.revocation.specs.Queue.{begun, noticesFrom, notices}
 use Rattle.revocation.specs.Sound.{queueTest, logTest}
-use Rattle.revocation_calls.specs.Calls.{revokeHeldOut, drainOut}
+use Rattle.revocation_calls.specs.Calls.{revokeHeldOut}
 use Rattle.revocation_calls.specs.Revoking.{revoking, revokingToken}
 use Rattle.revocation_steps.specs.Revocation.{logStep, notifyStep, notifyPids, notifyAll, freeQueues, newQueues, revokeStep}
 use Rattle.space.specs.Change.{inserted, insertOut}

@@ -12,7 +12,8 @@ use Rattle.base.specs.Below.{one}
 use Rattle.manager_laws.proofs.laws.SameIds.{SameIds, ids-trans, lookup-ids}
 use Rattle.manager_laws.proofs.laws.Spent.{NoneFreed, none-refl, none-trans, none-same}
 use Rattle.registry.specs.Words.{recycledAt}
-use Rattle.revocation_calls.specs.Calls.{revokeOut, revokeCapabilityOut, revokeHeldOut, revokeBatchOut, notifyOut, without, drainOut, cleanupOut}
+use Rattle.notification_calls.specs.Calls.{notifyOut, without, drainOut, cleanupOut}
+use Rattle.revocation_calls.specs.Calls.{revokeOut, revokeCapabilityOut, revokeHeldOut, revokeBatchOut}
 use Rattle.revocation_calls.specs.Revoking.{revoking, listing, revokingToken, revokingHeld, revokingEach}
 use Rattle.revocation_calls.proofs.laws.Kept.{revoking-token-kept}
 use Rattle.revocation_laws.proofs.laws.NoticeWays.{notify-by-cases, drain-by-cases}

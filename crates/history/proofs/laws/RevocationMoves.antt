@@ -10,7 +10,8 @@ use lib.ListN.{length}
 use Rattle.answers.specs.Number.{numberOf}
 use Rattle.base.specs.Below.{one}
 use Rattle.steps.proofs.laws.Cases.{pick-by-cases, when-by-cases}
-use Rattle.revocation_calls.specs.Calls.{revokeOut, revokeCapabilityOut, revokeHeldOut, revokeBatchOut, notifyOut, without, drainOut, cleanupOut}
+use Rattle.notification_calls.specs.Calls.{notifyOut, without, drainOut, cleanupOut}
+use Rattle.revocation_calls.specs.Calls.{revokeOut, revokeCapabilityOut, revokeHeldOut, revokeBatchOut}
 use Rattle.revocation_calls.specs.Revoking.{revoking, listing, revokingToken, revokingHeld, revokingEach}
 use Rattle.revocation_calls.proofs.laws.Kept.{revoking-token-kept}
 use Rattle.revocation_laws.proofs.laws.NoticeWays.{notify-by-cases, drain-by-cases}

@@ -18,7 +18,7 @@ use Rattle.manager_laws.proofs.laws.CreateTold.{create-told-21}
 use Rattle.manager_laws.proofs.laws.Delegated as delegate
 use Rattle.manager_laws.proofs.laws.Ways.{delete-by-cases, check-by-cases}
 use Rattle.manager_calls.specs.Calls as manager
-use Rattle.revocation_calls.proofs.Noticing.{words-for, few-for}
+use Rattle.notification_calls.proofs.Noticing.{words-for, few-for}
 use Rattle.revocation_laws.proofs.laws.HeldTold.{held-told-21}
 use Rattle.revocation_laws.proofs.laws.ListsTold.{drain-told-21}
 use Rattle.revocation_laws.proofs.laws.RevokeTold.{revoke-capability-told-21}

@@ -20,7 +20,8 @@ use Rattle.steps.proofs.laws.Entered.{world-by-cases}
 use Rattle.world.specs.Numbers.{numbersOf}
 use Rattle.world.specs.Sound.{Sound}
 use Rattle.world.specs.declared.Numbers.{Numbers}
-use Rattle.revocation_calls.specs.Calls.{listedIn, descendants, descendantsOut, notifyOut, noticesFor, peekOut, drainOut, reasonOut}
+use Rattle.notification_calls.specs.Calls.{notifyOut, noticesFor, peekOut, drainOut}
+use Rattle.revocation_calls.specs.Calls.{listedIn, descendants, descendantsOut, reasonOut}
 use Rattle.revocation_laws.proofs.laws.NoticeWays.{NoPlace, HasPlace, TooShort, LongEnough, notify-by-cases, peek-by-cases, drain-by-cases}
 
 -- ---- lists

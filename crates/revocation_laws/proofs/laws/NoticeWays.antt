@@ -17,7 +17,7 @@ use Rattle.steps.proofs.laws.Entered.{world-by-cases}
 use Rattle.world.specs.Numbers.{numbersOf}
 use Rattle.world.specs.Sound.{Sound}
 use Rattle.world.specs.declared.Numbers.{Numbers}
-use Rattle.revocation_calls.specs.Calls.{notifyOut, noticesFor, peeked, peekOut, without, drainOut}
+use Rattle.notification_calls.specs.Calls.{notifyOut, noticesFor, peeked, peekOut, without, drainOut}
 
 -- ---- a notice for a pid
 

@@ -34,7 +34,8 @@ use Rattle.world.specs.Numbers.{numbersOf, registeredOf}
 use Rattle.world.specs.Regions.{registry, queue, view}
 use Rattle.world.specs.Sound.{lengths, SoundAt, Sound}
 use Rattle.world.specs.declared.Numbers.{Numbers}
-use Rattle.revocation_calls.specs.Calls.{revokeOut, revokeCapabilityOut, revokeHeldOut, notifyOut, countFor, peekOut, without, drainOut, cleanupOut}
+use Rattle.notification_calls.specs.Calls.{notifyOut, countFor, peekOut, without, drainOut, cleanupOut}
+use Rattle.revocation_calls.specs.Calls.{revokeOut, revokeCapabilityOut, revokeHeldOut}
 use Rattle.revocation_calls.specs.Revoking.{revoking}
 use Rattle.revocation_laws.proofs.laws.Counted.{same-registered, same-registry, same-queues}
 use Rattle.revocation_laws.proofs.laws.Given.{revoke-given, revoke-capability-given, held-given, held-done}

@@ -14,7 +14,8 @@ use Rattle.steps.proofs.laws.SpaceSteps.{lookup-step-kept}
 use Rattle.world.specs.Numbers.{numbersOf}
 use Rattle.world.specs.Sound.{Sound}
 use Rattle.world.specs.declared.Numbers.{Numbers}
-use Rattle.revocation_calls.specs.Calls.{revokeOut, revokeCapabilityOut, revokeHeldOut, revokeBatchOut, notifyOut, without, drainOut, cleanupOut}
+use Rattle.notification_calls.specs.Calls.{notifyOut, without, drainOut, cleanupOut}
+use Rattle.revocation_calls.specs.Calls.{revokeOut, revokeCapabilityOut, revokeHeldOut, revokeBatchOut}
 use Rattle.revocation_calls.proofs.laws.Kept.{revoking-kept, revoking-token-kept, revoking-held-kept, revoking-each-kept}
 use Rattle.revocation_laws.proofs.laws.NoticeWays.{notify-by-cases, drain-by-cases}
 use Rattle.revocation_laws.proofs.laws.Ways.{revoke-by-cases, revoke-capability-by-cases, held-by-cases, batch-by-cases}

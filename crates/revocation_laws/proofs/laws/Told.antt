@@ -29,9 +29,10 @@ use Rattle.token.specs.Token.{idOf}
 use Rattle.world.specs.Numbers.{numbersOf, registeredOf}
 use Rattle.world.specs.Sound.{Sound}
 use Rattle.world.specs.declared.Numbers.{Numbers}
-use Rattle.revocation_calls.specs.Calls.{revokeOut, revokeCapabilityOut, revokeHeldOut, revokeBatchOut, isRevokedOut, epochOut, listedIn, descendants, descendantsOut, notifyOut, noticesFor, peekOut, drainOut, notificationCountOut, cleanupOut, notificationStatsOut}
+use Rattle.notification_calls.specs.Calls.{notifyOut, noticesFor, peekOut, drainOut, notificationCountOut, cleanupOut, notificationStatsOut}
+use Rattle.notification_calls.specs.declared.QueuesReply.{QueuesReply}
+use Rattle.revocation_calls.specs.Calls.{revokeOut, revokeCapabilityOut, revokeHeldOut, revokeBatchOut, isRevokedOut, epochOut, listedIn, descendants, descendantsOut}
 use Rattle.revocation_calls.specs.Revoking.{revokingHeld}
-use Rattle.revocation_calls.specs.declared.QueuesReply.{QueuesReply}
 use Rattle.revocation_laws.proofs.laws.Ways.{Own, own-not, revoking-own, revoking-token-own, each-done}
 
 -- ---- no answer of a call's own is either

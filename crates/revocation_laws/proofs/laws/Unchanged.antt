@@ -26,7 +26,8 @@ use Rattle.token.specs.Token.{idOf}
 use Rattle.world.specs.Numbers.{numbersOf, registeredOf}
 use Rattle.world.specs.Sound.{states, Sound}
 use Rattle.world.specs.declared.Numbers.{Numbers}
-use Rattle.revocation_calls.specs.Calls.{revokeOut, revokeCapabilityOut, revokeHeldOut, revokeBatchOut, listedIn, descendants, descendantsOut, notifyOut, peekOut, drainOut, cleanupOut, reasonOut}
+use Rattle.notification_calls.specs.Calls.{notifyOut, peekOut, drainOut, cleanupOut}
+use Rattle.revocation_calls.specs.Calls.{revokeOut, revokeCapabilityOut, revokeHeldOut, revokeBatchOut, listedIn, descendants, descendantsOut, reasonOut}
 use Rattle.revocation_calls.specs.Revoking.{revoking, revokingToken, revokingHeld}
 use Rattle.revocation_laws.proofs.laws.Counted.{same-registered, same-registry}
 use Rattle.revocation_laws.proofs.laws.NoticeWays.{notify-by-cases, peek-by-cases, drain-by-cases}

@@ -1,4 +1,4 @@
--- A refusal's value is 0, of the calls of revocation that only read and list nothing. Unchanged.antt says it of the others.
+-- A refusal's value is 0, of the calls that only read and list nothing. Unchanged.antt says it of the others.
 use mathlib.Core.List.{List}
 use mathlib.Core.Logic.{_≢_}
 use mathlib.Core.Path.{_≡_, refl}
@@ -7,8 +7,9 @@ use Rattle.answers.specs.declared.Answer.the-variants.{Done}
 use Rattle.steps.specs.Replies.{refusal}
 use Rattle.steps.specs.declared.Reply.{Reply}
 use Rattle.steps.proofs.laws.Entered.{world-by-cases}
-use Rattle.revocation_calls.specs.Calls.{isRevokedOut, epochOut, notificationCountOut, noQueues, notificationStatsOut}
-use Rattle.revocation_calls.specs.declared.QueuesReply.{QueuesReply}
+use Rattle.notification_calls.specs.Calls.{notificationCountOut, noQueues, notificationStatsOut}
+use Rattle.notification_calls.specs.declared.QueuesReply.{QueuesReply}
+use Rattle.revocation_calls.specs.Calls.{isRevokedOut, epochOut}
 
 abbrev NoValue : Reply → Type 0
 NoValue r = r .answer ≢ Done → r .value ≡ 0

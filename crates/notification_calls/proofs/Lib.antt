@@ -1,0 +1,2 @@
+-- What the proofs of `notification_calls` share.
+pub mod Noticing

@@ -1,0 +1,2 @@
+-- What the contracts of `notification_calls` cite.
+pub mod Calls
