@@ -1,2 +1,3 @@
--- The law of the calls of revocation that the code's proofs take too.
+-- Laws of a revocation, from its definition alone, that the code's proofs take too.
+pub mod RevokingWays
 pub mod Kept

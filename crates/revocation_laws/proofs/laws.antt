@@ -1,6 +1,7 @@
 -- Laws of the calls of revocation and of those for notifications, from their definitions alone.
 pub mod Ways
 pub mod NoticeWays
+pub mod Steady
 pub mod Counted
 pub mod Given
 pub mod Sound

@@ -9,6 +9,7 @@ use Rattle.answers.specs.declared.Answer.the-variants.{Done}
 use Rattle.manager_calls.specs.Calls.{deleteOut}
 use Rattle.manager_laws.proofs.laws.Ids as manager
 use Rattle.manager_laws.proofs.laws.Spent.{SpentAt, Spent, NoneFreed, spent-still}
+use Rattle.revocation_laws.proofs.laws.Steady as revocation
 use Rattle.space_laws.proofs.laws.Elsewhere as space
 use Rattle.steps.proofs.laws.Kept.{Kept}
 use Rattle.token.specs.Token.{idOf}
@@ -22,7 +23,7 @@ use Rattle.history.specs.Perform.{accept, change, perform, after}
 use Rattle.history.specs.Promises.{reopens, reopened}
 use Rattle.history.proofs.laws.Kept.{accept-kept, change-kept, perform-keeps, not-reopened}
 use Rattle.history.proofs.laws.Opening.{opening-refused}
-use Rattle.history.proofs.laws.RevocationIds as revocation
+use Rattle.history.proofs.laws.RevocationIds.{ids-steady}
 use Rattle.history.proofs.laws.SpaceIds.{space-frees-none, alloc-frees-none, space-create-frees-none}
 
 -- The call does not give the id back: it is no delete of it that is given 0.
@@ -72,19 +73,19 @@ module _ (mem : List ℕ) (sound : Sound mem) (x : ℕ) (spent : Spent mem x) wh
   change-spent (delete token) kept = manager.delete-spent mem sound x spent token (kept token refl)
   change-spent (check token required s) kept = changed (check token required s) (manager.check-frees-none mem token required s)
   change-spent (revoke token time listed) kept =
-      changed (revoke token time listed) (revocation.revoke-frees-none mem sound time listed token)
+      changed (revoke token time listed) (revocation.revoke-steady mem sound (NoneFreed d) (ids-steady d) token time listed)
   change-spent (revoke-capability token time listed) kept =
-      changed (revoke-capability token time listed) (revocation.revoke-capability-frees-none mem sound time listed token)
+      changed (revoke-capability token time listed) (revocation.revoke-capability-steady mem sound (NoneFreed d) (ids-steady d) token time listed)
   change-spent (revoke-held s token time listed) kept =
-      changed (revoke-held s token time listed) (revocation.revoke-held-frees-none mem sound time listed s token)
+      changed (revoke-held s token time listed) (revocation.held-revoke-steady mem sound (NoneFreed d) (ids-steady d) s token time listed)
   change-spent (revoke-batch tokens time listed) kept =
-      changed (revoke-batch tokens time listed) (revocation.revoke-batch-frees-none mem sound time listed tokens)
+      changed (revoke-batch tokens time listed) (revocation.batch-steady mem sound (NoneFreed d) (ids-steady d) tokens time listed)
   change-spent (notify-process pid id reason time) kept =
-      changed (notify-process pid id reason time) (revocation.notify-frees-none mem sound pid id reason time)
+      changed (notify-process pid id reason time) (revocation.notify-steady mem sound (NoneFreed d) (ids-steady d) pid id reason time)
   change-spent (drain-notifications pid area) kept =
-      changed (drain-notifications pid area) (revocation.drain-frees-none mem sound pid area)
+      changed (drain-notifications pid area) (revocation.drain-steady mem sound (NoneFreed d) (ids-steady d) pid area)
   change-spent (cleanup-process-notifications pid) kept =
-      changed (cleanup-process-notifications pid) (revocation.cleanup-frees-none mem sound pid)
+      changed (cleanup-process-notifications pid) (revocation.cleanup-steady mem sound (NoneFreed d) (ids-steady d) pid)
 
   -- After every call but an opening given 0 and the id's own deletion.
   pub call-spent : (call : Call) → reopens call mem ≡ false → NotGivenBack x call mem → Spent (perform call mem .memory) x

@@ -9,6 +9,8 @@ use lib.ListN.{length}
 use Rattle.manager_calls.specs.Calls.{deleteOut, checkOut}
 use Rattle.manager_laws.proofs.laws.Sound.{deleted-kept}
 use Rattle.manager_laws.proofs.laws.Ways.{delete-by-cases, check-by-cases}
+use Rattle.revocation_laws.proofs.laws.Steady as revocation
+use Rattle.revocation_laws.proofs.laws.Steady.{Steady}
 use Rattle.steps.specs.Replies.{Left}
 use Rattle.steps.specs.Steps.{lookupStep, placeIn, unregisterStep}
 use Rattle.steps.specs.declared.Reply.{Reply}
@@ -32,7 +34,7 @@ use Rattle.history.proofs.laws.DelegateMoves.{delegate-pays}
 use Rattle.history.proofs.laws.Kept.{perform-kept, perform-keeps, not-reopened}
 use Rattle.history.proofs.laws.Opening.{opening-refused}
 use Rattle.history.proofs.laws.Paid.{potentialIn, Pays, Quiet, quiet-refl, quiet-trans, changed-quiet, lookup-quiet}
-use Rattle.history.proofs.laws.RevocationMoves as revocation
+use Rattle.history.proofs.laws.RevocationMoves.{quiet-steady}
 use Rattle.history.proofs.laws.SpaceMoves as space-call
 use Rattle.history.proofs.laws.SpacePaid.{potentialOf}
 
@@ -70,6 +72,12 @@ module _ (mem : List ℕ) (sound : Sound mem) (s : ℕ) (inside : s < numbersOf 
 
   -- ---- every call
 
+  abbrev InSpace : List ℕ → List ℕ → Type 0
+  InSpace before after = Quiet (numbersOf mem) s before after
+
+  steady : Steady (numbersOf mem) InSpace
+  steady = quiet-steady (numbersOf mem) s inside
+
   accept-pays :
       (call : Accepting) → Pays d s mem (accept call mem .memory) (movedIn (accepts call) s mem) (acceptedIn (accepts call) s mem)
   unfolding accept movedIn acceptedIn
@@ -92,13 +100,13 @@ module _ (mem : List ℕ) (sound : Sound mem) (s : ℕ) (inside : s < numbersOf 
   change-calm alloc-cap-id = space-call.alloc-calm mem sound s inside
   change-calm (delete token) = delete-calm token
   change-calm (check token required t) = check-calm token required t
-  change-calm (revoke token time listed) = revocation.revoke-calm mem sound s inside time listed token
-  change-calm (revoke-capability token time listed) = revocation.revoke-capability-calm mem sound s inside time listed token
-  change-calm (revoke-held t token time listed) = revocation.revoke-held-calm mem sound s inside time listed t token
-  change-calm (revoke-batch tokens time listed) = revocation.revoke-batch-calm mem sound s inside time listed tokens
-  change-calm (notify-process pid id reason time) = revocation.notify-calm mem sound s inside pid id reason time
-  change-calm (drain-notifications pid area) = revocation.drain-calm mem sound s inside pid area
-  change-calm (cleanup-process-notifications pid) = revocation.cleanup-calm mem sound s inside pid
+  change-calm (revoke token time listed) = revocation.revoke-steady mem sound InSpace steady token time listed
+  change-calm (revoke-capability token time listed) = revocation.revoke-capability-steady mem sound InSpace steady token time listed
+  change-calm (revoke-held t token time listed) = revocation.held-revoke-steady mem sound InSpace steady t token time listed
+  change-calm (revoke-batch tokens time listed) = revocation.batch-steady mem sound InSpace steady tokens time listed
+  change-calm (notify-process pid id reason time) = revocation.notify-steady mem sound InSpace steady pid id reason time
+  change-calm (drain-notifications pid area) = revocation.drain-steady mem sound InSpace steady pid area
+  change-calm (cleanup-process-notifications pid) = revocation.cleanup-steady mem sound InSpace steady pid
 
   pub perform-pays :
       (call : Call) → reopens call mem ≡ false

@@ -26,7 +26,7 @@ use Rattle.world.specs.Sound.{states, SoundAt}
 use Rattle.world.specs.Views.{Change, view-other, head-kept}
 use Rattle.world.specs.declared.Numbers.{Numbers}
 use Rattle.revocation_calls.specs.Revoking.{revoking, listing, revokingToken}
-use Rattle.revocation_laws.proofs.laws.Ways.{pairsAfter, pairsWith}
+use Rattle.revocation_calls.proofs.laws.RevokingWays.{pairsAfter, pairsWith}
 
 -- ---- what a revocation answers, by its tests
 

@@ -22,8 +22,9 @@ use Rattle.world.specs.Sound.{Sound}
 use Rattle.world.specs.declared.Numbers.{Numbers}
 use Rattle.revocation_calls.specs.Calls.{revokeOut, revokeCapabilityOut, revokeHeldOut}
 use Rattle.revocation_calls.specs.Revoking.{revoking, listing, revokingToken, revokingHeld}
+use Rattle.revocation_calls.proofs.laws.RevokingWays.{revoking-token-by-cases}
 use Rattle.revocation_laws.proofs.laws.Counted.{same-registered, same-registry}
-use Rattle.revocation_laws.proofs.laws.Ways.{revoking-token-by-cases, revoke-by-cases, revoke-capability-by-cases, held-by-cases}
+use Rattle.revocation_laws.proofs.laws.Ways.{revoke-by-cases, revoke-capability-by-cases, held-by-cases}
 
 -- Given 0, it leaves a memory that P holds of.
 abbrev pub Given : (List ℕ → Type 0) → Left Reply → Type 0

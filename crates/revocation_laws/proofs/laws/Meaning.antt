@@ -29,9 +29,9 @@ use Rattle.world.specs.Sound.{ids, states, links, recycled, logPairs, SoundAt, 
 use Rattle.world.specs.declared.Numbers.{Numbers}
 use Rattle.revocation_calls.specs.Calls.{revokeOut, revokeCapabilityOut, revokeHeldOut}
 use Rattle.revocation_calls.specs.Revoking.{revoking}
+use Rattle.revocation_calls.proofs.laws.RevokingWays.{revoking-by-cases}
 use Rattle.revocation_laws.proofs.laws.Counted.{same-registry}
 use Rattle.revocation_laws.proofs.laws.Given.{Given, revoke-given, revoke-capability-given, held-given}
-use Rattle.revocation_laws.proofs.laws.Ways.{revoking-by-cases}
 
 -- Place k is registered, and r or below it.
 abbrev pub Descends : Numbers → List ℕ → ℕ → ℕ → Type 0

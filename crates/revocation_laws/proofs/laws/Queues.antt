@@ -37,11 +37,11 @@ use Rattle.world.specs.declared.Numbers.{Numbers}
 use Rattle.notification_calls.specs.Calls.{notifyOut, countFor, peekOut, without, drainOut, cleanupOut}
 use Rattle.revocation_calls.specs.Calls.{revokeOut, revokeCapabilityOut, revokeHeldOut}
 use Rattle.revocation_calls.specs.Revoking.{revoking}
+use Rattle.revocation_calls.proofs.laws.RevokingWays.{revoking-by-cases}
 use Rattle.revocation_laws.proofs.laws.Counted.{same-registered, same-registry, same-queues}
 use Rattle.revocation_laws.proofs.laws.Given.{revoke-given, revoke-capability-given, held-given, held-done}
 use Rattle.revocation_laws.proofs.laws.NoticeWays.{notify-by-cases, peek-by-cases, drain-by-cases}
 use Rattle.revocation_laws.proofs.laws.Unregistered.{revoke-capability-unregistered, held-unregistered}
-use Rattle.revocation_laws.proofs.laws.Ways.{revoking-by-cases}
 
 -- ---- a notice for a pid
 

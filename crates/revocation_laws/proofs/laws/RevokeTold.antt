@@ -21,7 +21,8 @@ use Rattle.world.specs.Sound.{states, Sound}
 use Rattle.world.specs.declared.Numbers.{Numbers}
 use Rattle.revocation_calls.specs.Calls.{revokeOut, revokeCapabilityOut}
 use Rattle.revocation_calls.specs.Revoking.{revoking, revokingToken}
-use Rattle.revocation_laws.proofs.laws.Ways.{pairsAfter, pairsWith, Own, own-not, revoking-own, revoking-token-own, revoking-by-cases, listing-by-cases, revoking-token-by-cases, revoke-by-cases, revoke-capability-by-cases, revoke-capability-called}
+use Rattle.revocation_calls.proofs.laws.RevokingWays.{pairsAfter, pairsWith, revoking-by-cases, listing-by-cases, revoking-token-by-cases}
+use Rattle.revocation_laws.proofs.laws.Ways.{Own, own-not, revoking-own, revoking-token-own, revoke-by-cases, revoke-capability-by-cases, revoke-capability-called}
 
 -- It is the answer a exactly in the case A.
 abbrev Exactly : Answer → Type 0 → Left Reply → Type 0

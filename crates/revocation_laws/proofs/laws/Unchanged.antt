@@ -29,9 +29,10 @@ use Rattle.world.specs.declared.Numbers.{Numbers}
 use Rattle.notification_calls.specs.Calls.{notifyOut, peekOut, drainOut, cleanupOut}
 use Rattle.revocation_calls.specs.Calls.{revokeOut, revokeCapabilityOut, revokeHeldOut, revokeBatchOut, listedIn, descendants, descendantsOut, reasonOut}
 use Rattle.revocation_calls.specs.Revoking.{revoking, revokingToken, revokingHeld}
+use Rattle.revocation_calls.proofs.laws.RevokingWays.{revoking-by-cases, listing-by-cases, revoking-token-by-cases}
 use Rattle.revocation_laws.proofs.laws.Counted.{same-registered, same-registry}
 use Rattle.revocation_laws.proofs.laws.NoticeWays.{notify-by-cases, peek-by-cases, drain-by-cases}
-use Rattle.revocation_laws.proofs.laws.Ways.{revoking-by-cases, listing-by-cases, revoking-token-by-cases, each-done, revoke-by-cases, revoke-capability-by-cases, held-by-cases, batch-by-cases, withVisits, revoke-registered, revoke-capability-called, held-with-revoke}
+use Rattle.revocation_laws.proofs.laws.Ways.{each-done, revoke-by-cases, revoke-capability-by-cases, held-by-cases, batch-by-cases, withVisits, revoke-registered, revoke-capability-called, held-with-revoke}
 
 -- Any answer but 0 leaves the memory as it was, with the value 0,
 pub record Unchanged (mem : List ℕ) (out : Left Reply) : Type 0 where

@@ -31,7 +31,7 @@ use Rattle.revocation_calls.specs.Calls.{revokeCapabilityOut, revokeHeldOut}
 use Rattle.revocation_calls.specs.Revoking.{listing}
 use Rattle.revocation_laws.proofs.laws.Given.{revoke-capability-listed, held-listed}
 use Rattle.revocation_calls.proofs.laws.Kept.{listing-kept}
-use Rattle.revocation_laws.proofs.laws.Ways.{newPair, pairsWith, listing-by-cases}
+use Rattle.revocation_calls.proofs.laws.RevokingWays.{newPair, pairsWith, listing-by-cases}
 
 pub record OnlyLogged (d : Numbers) (pair : ℕ) (mem after : List ℕ) : Type 0 where
   pub same-registry : view d registry after ≡ view d registry mem

@@ -1,88 +1,34 @@
--- The ways through a revocation and through the calls that revoke: what holds of each ending holds of the whole.
+-- The ways through the calls that revoke: what holds of each ending holds of the whole; and which answers are a revocation's own.
 use mathlib.Core.Bool.{true, not}
 use mathlib.Core.List.{List, [], _∷_}
 use mathlib.Core.Logic.{_≢_, _⊎_, inl, inr, ⊎-elim}
 use mathlib.Core.Path.{_≡_, refl, sym, ap, _∙_}
 use Prim.Native.Nat.{ℕ, _+_, _^_, _≤_, _<_}
 use native.Mathlib.Omega.{arith}
-use borrow.Author.Tests.{ltb-true, ltb-false, eqb-true, eqb-false}
+use borrow.Author.Tests.{ltb-true, ltb-false}
 use lib.Dec.{eqb, ltb}
 use lib.ListN.{length}
 use Rattle.answers.specs.Number.{numberOf}
 use Rattle.answers.specs.declared.Answer.{Answer}
-use Rattle.answers.specs.declared.Answer.the-variants.{Done, InvalidCapability, BadSpace, BadField, LogFull, PidTableFull, BadWorld}
+use Rattle.answers.specs.declared.Answer.the-variants.{Done, InvalidCapability, BadSpace, BadField, BadWorld}
 use Rattle.base.specs.Below.{one}
 use Rattle.base.specs.Choose.{when, when-no}
-use Rattle.registry.specs.Words.{revoked}
-use Rattle.revocation.specs.Log.{pairOf, absentOf}
-use Rattle.revocation_steps.specs.Revocation.{logOf, logStep, freeQueues, cascadePairs, cascadeQueues, revokeStep}
 use Rattle.space.specs.Lookup.{lookedUp}
-use Rattle.steps.specs.Replies.{Left, replied, done, refuse}
-use Rattle.steps.specs.Steps.{spaceOf, lookupStep, placeIn, addStep}
+use Rattle.steps.specs.Replies.{Left, replied, refuse}
+use Rattle.steps.specs.Steps.{spaceOf, lookupStep, placeIn}
 use Rattle.steps.specs.declared.Reply.{Reply}
-use Rattle.steps.proofs.laws.Cases.{pick-by-cases, when-by-cases, unless-below}
+use Rattle.steps.proofs.laws.Cases.{when-by-cases, unless-below}
 use Rattle.steps.proofs.laws.Entered.{world-by-cases, space-by-cases}
 use Rattle.table.specs.declared.CapabilityEntry.{CapabilityEntry}
 use Rattle.table.specs.declared.Got.the-variants.{Entry}
 use Rattle.token.specs.Rights.{holds}
-use Rattle.token.specs.Token.{idOf, generationOf}
-use Rattle.world.specs.Numbers.{numbersOf, registeredOf, loggedOf}
-use Rattle.world.specs.Sound.{states, Sound}
+use Rattle.token.specs.Token.{idOf}
+use Rattle.world.specs.Numbers.{numbersOf, registeredOf}
+use Rattle.world.specs.Sound.{Sound}
 use Rattle.world.specs.declared.Numbers.{Numbers}
 use Rattle.revocation_calls.specs.Calls.{revokeOut, revokeCapabilityOut, revokeHeldOut, revokeBatchOut}
-use Rattle.revocation_calls.specs.Revoking.{revoking, listing, revokingToken, revokingHeld, revokingEach}
-
--- How many pairs the log has with those that a cascade from place r adds,
-abbrev pub pairsAfter : Numbers → List ℕ → ℕ → ℕ
-pairsAfter d mem r = loggedOf mem + length (cascadePairs d mem r)
-
--- the pair of a token, if the log has it not, and how many pairs the log has with it.
-abbrev pub newPair : Numbers → List ℕ → ℕ → List ℕ
-newPair d mem token = absentOf (loggedOf mem) (logOf d mem) (pairOf (idOf token) (generationOf token) ∷ [])
-
-abbrev pub pairsWith : Numbers → List ℕ → ℕ → ℕ
-pairsWith d mem token = loggedOf mem + length (newPair d mem token)
-
--- ---- from a registered place, from an id that is not registered, from any token
-
-module _ (d : Numbers) (mem : List ℕ) (P : Left Reply → Type 0) where
-  pub revoking-by-cases :
-      (r time : ℕ) (listed : List ℕ) → (revoked (states d mem r) ≡ 1 → P (record { reply = done 0; memory = mem }))
-      → (revoked (states d mem r) ≡ 0 → d .pairs < pairsAfter d mem r → P (refuse mem LogFull))
-      → (revoked (states d mem r) ≡ 0 → pairsAfter d mem r ≤ d .pairs → freeQueues d mem < cascadeQueues d mem r listed
-      → P (refuse mem PidTableFull))
-      → (revoked (states d mem r) ≡ 0 → pairsAfter d mem r ≤ d .pairs → cascadeQueues d mem r listed ≤ freeQueues d mem
-      → P (record { reply = done 0; memory = revokeStep d r time listed mem }))
-      → P (revoking d r time listed mem)
-  unfolding revoking
-  revoking-by-cases r time listed already full crowded goes =
-      let state : ℕ = states d mem r in
-      let free : ℕ = freeQueues d mem in
-      let needed : ℕ = cascadeQueues d mem r listed in
-      when-by-cases P _ _ (eqb (revoked state) 1) (λ e. already (eqb-true (revoked state) 1 e))
-      (λ e.
-      let unrevoked : revoked state ≡ 0 = omega (arith, eqb-false (revoked state) 1 e) in
-      when-by-cases P _ _ (ltb (d .pairs) (pairsAfter d mem r)) (λ e. full unrevoked (ltb-true _ _ e))
-      (λ fits.
-      when-by-cases P _ _ (ltb free needed) (λ e. crowded unrevoked (ltb-false _ _ fits) (ltb-true free needed e))
-      (λ e. goes unrevoked (ltb-false _ _ fits) (ltb-false free needed e))))
-
-  pub listing-by-cases :
-      (token : ℕ) → (d .pairs < pairsWith d mem token → P (refuse mem LogFull))
-      → (pairsWith d mem token ≤ d .pairs → P (record { reply = done 0; memory = addStep 6 1 (logStep d (newPair d mem token) mem) }))
-      → P (listing d token mem)
-  unfolding listing
-  listing-by-cases token full goes =
-      when-by-cases P _ _ (ltb (d .pairs) (pairsWith d mem token)) (λ e. full (ltb-true _ _ e)) (λ e. goes (ltb-false _ _ e))
-
-  pub revoking-token-by-cases :
-      (token time : ℕ) (listed : List ℕ)
-      → (placeIn d mem (idOf token) < registeredOf mem → P (revoking d (placeIn d mem (idOf token)) time listed mem))
-      → (registeredOf mem ≤ placeIn d mem (idOf token) → P (listing d token mem)) → P (revokingToken d token time listed mem)
-  unfolding revokingToken
-  revoking-token-by-cases token time listed inside outside =
-      let r : ℕ = placeIn d mem (idOf token) in
-      pick-by-cases P _ _ (ltb r (registeredOf mem)) (λ e. inside (ltb-true r _ e)) (λ e. outside (ltb-false r _ e))
+use Rattle.revocation_calls.specs.Revoking.{revoking, revokingToken, revokingHeld, revokingEach}
+use Rattle.revocation_calls.proofs.laws.RevokingWays.{revoking-by-cases, listing-by-cases, revoking-token-by-cases}
 
 -- ---- what a revocation answers: 0, 24 or 25
 
