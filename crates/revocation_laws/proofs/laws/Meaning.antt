@@ -3,7 +3,7 @@
 use mathlib.Core.Bool.{true}
 use mathlib.Core.List.{List}
 use mathlib.Core.Logic.{_↔_, _≢_, _⊎_, inl, inr, ⊎-elim}
-use mathlib.Core.Path.{_≡_, refl, ap}
+use mathlib.Core.Path.{_≡_, refl, sym, ap, _∙_}
 use Prim.Native.Nat.{ℕ, _+_, _%_, _^_, _<_}
 use native.Mathlib.Omega.{arith}
 use lib.ListN.{length, getD, take}
@@ -12,7 +12,7 @@ use Rattle.answers.specs.declared.Answer.the-variants.{Done}
 use Rattle.base.specs.Distinct.{Differ}
 use Rattle.registry.specs.DescentLaws.{Under}
 use Rattle.registry.specs.Words.{revoked, listed, holders}
-use Rattle.revocation.specs.Log.{logHas}
+use Rattle.revocation.specs.Log.{pairOf, logHas}
 use Rattle.revocation.specs.LogLaws.{OneOf}
 use Rattle.revocation_steps.specs.Revocation.{cascade, cascadeIds}
 use Rattle.revocation_steps.proofs.laws.Cascade.{cascade-exactly, under-revoked, cascade-ids-exactly}
@@ -37,9 +37,14 @@ use Rattle.revocation_laws.proofs.laws.Given.{Given, revoke-given, revo
 abbrev pub Descends : Numbers → List ℕ → ℕ → ℕ → Type 0
 Descends d mem r k = (k < registeredOf mem) × Under (links d mem) r k
 
--- It is the id of a place that descends from r and is not revoked yet; with generation 0 it is its own pair.
+-- It is the pair, id and earlier generation, of a place that descends from r and is not revoked yet.
 abbrev pub NewlyRevoked : Numbers → List ℕ → ℕ → ℕ → Type 0
-NewlyRevoked d mem r id = (k : ℕ) × ((Descends d mem r k × (revoked (states d mem k) ≡ 0)) × (ids d mem k ≡ id))
+NewlyRevoked d mem r pair =
+    (k : ℕ) × ((Descends d mem r k × (revoked (states d mem k) ≡ 0)) × (pairOf (ids d mem k) (revoked (states d mem k)) ≡ pair))
+
+-- That generation is 0, so the pair is the id itself.
+pub unrevoked-pair : (id generation : ℕ) → generation ≡ 0 → pairOf id generation ≡ id
+unrevoked-pair id generation none = omega arith
 
 pub record Revokes (d : Numbers) (r : ℕ) (mem after : List ℕ) : Type 0 where
   -- Revoked is exactly what was, and what descends from r; of every other place the state is as it was,
@@ -93,11 +98,15 @@ module _ (d : Numbers) (mem : List ℕ) (sound : SoundAt d mem) (r : ℕ) (insid
     log-once = sound .pairs-differ;
   }
 
-  newly-exactly : (id : ℕ) → OneOf (cascadeIds d mem r) id ↔ NewlyRevoked d mem r id
-  newly-exactly id =
-      let exactly = cascade-ids-exactly d mem sound r inside id in (
-        λ one. let (k, (among, is)) = exactly .0 one in (k, (cascade-exactly d mem sound r inside k .0 among, is)),
-        λ (k, (newly, is)). exactly .1 (k, (cascade-exactly d mem sound r inside k .1 newly, is)),
+  newly-exactly : (pair : ℕ) → OneOf (cascadeIds d mem r) pair ↔ NewlyRevoked d mem r pair
+  newly-exactly pair =
+      let exactly = cascade-ids-exactly d mem sound r inside pair in (
+        λ one.
+            let (k, (among, is)) = exactly .0 one in
+            let newly = cascade-exactly d mem sound r inside k .0 among in
+            (k, (newly, unrevoked-pair _ _ (newly .1) ∙ is)),
+        λ (k, (newly, is)).
+            exactly .1 (k, (cascade-exactly d mem sound r inside k .1 newly, sym (unrevoked-pair _ _ (newly .1)) ∙ is)),
       )
 
   pub revoking-means :
