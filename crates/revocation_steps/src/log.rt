@@ -1,6 +1,6 @@
 // The log in the world's memory.
 ghost use mathlib.Core.Path.{_≡_};
-ghost use Prim.Native.Nat.{_+_, _<_, _≤_};
+ghost use Prim.Native.Nat.{_+_, _≤_};
 ghost use lib.ListN.{length, take};
 ghost use Rattle.base.specs.Distinct.{Differ};
 ghost use Rattle.revocation.specs.Log.{logHas, absentOf};

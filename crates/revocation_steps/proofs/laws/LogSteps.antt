@@ -4,7 +4,7 @@ use mathlib.Core.Path.{_≡_, refl, _∙_}
 use mathlib.Core.Logic.{_≢_}
 use mathlib.Core.Bool.{false}
 use mathlib.Core.List.{List}
-use Prim.Native.Nat.{ℕ, _+_, _%_, _^_, _≤_, _<_}
+use Prim.Native.Nat.{ℕ, _+_, _≤_, _<_}
 use native.Mathlib.Omega.{arith}
 use lib.ListN.{length, getD, set, length-set}
 use lib.Seq.{getD-set-same, getD-set-other}
@@ -14,15 +14,14 @@ use Rattle.revocation.specs.LogLaws.{OneOf, length-appended, pairs-appended, di
 use Rattle.revocation.specs.Sound.{Pairs}
 use Rattle.revocation.specs.Words.{pairAt}
 use Rattle.world.specs.Layout.{Valid, same}
-use Rattle.world.specs.Numbers.{nextOf, registeredOf, recycledOf, loggedOf, numbers-set}
+use Rattle.world.specs.Numbers.{loggedOf, numbers-set}
 use Rattle.world.specs.Regions.{Region, head, space, registry, log, queue, lengthFor, view, onRegion}
 use Rattle.world.specs.Sound.{SoundAt}
 use Rattle.world.specs.Views.{Change, set-head, set-changes, length-view, length-kept, view-same, view-other, past-kept, head-kept, numbers-kept}
 use Rattle.world.specs.declared.Numbers.{Numbers}
 use Rattle.revocation_steps.specs.Revocation.{logStep}
 use Rattle.steps.proofs.laws.Ready.{head-fits}
-use Rattle.steps.proofs.laws.Kept.{Kept, set-view, registry-rules}
-use Rattle.steps.proofs.laws.RegistryChanged.{RegistryChanged, word-changed, changed-kept}
+use Rattle.steps.proofs.laws.Kept.{Kept, set-view}
 use Rattle.revocation_steps.proofs.laws.SameHoldings.{SameHoldings, holdings-kept}
 
 -- ---- pairs join the log

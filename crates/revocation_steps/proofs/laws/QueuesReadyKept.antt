@@ -2,8 +2,8 @@
 -- sound. A notice asks only of the length and of the queues.
 use mathlib.Core.Path.{_≡_}
 use mathlib.Core.List.{List}
-use Prim.Native.Nat.{ℕ, _+_, _%_, _^_, _≤_, _<_}
-use lib.ListN.{length, getD}
+use Prim.Native.Nat.{ℕ, _+_, _≤_, _<_}
+use lib.ListN.{length}
 use Rattle.registry.specs.Descent.{marked}
 use Rattle.registry.specs.MarkedLaws.{marked-only}
 use Rattle.registry.specs.PlaceLists.{AllBelow}
@@ -15,7 +15,7 @@ use Rattle.world.specs.declared.Numbers.{Numbers}
 use Rattle.revocation_steps.specs.Revocation.{logStep}
 use Rattle.steps.specs.Steps.{addStep}
 use Rattle.steps.proofs.laws.Kept.{Apart}
-use Rattle.steps.proofs.laws.ReadyKept.{Stays, Leaves, registry-stays, word-leaves}
+use Rattle.steps.proofs.laws.ReadyKept.{Stays, registry-stays}
 use Rattle.revocation_steps.proofs.laws.LogSteps.{log-step-holdings, log-step-queue}
 use Rattle.steps.proofs.laws.RegistrySteps.{add-step}
 use Rattle.revocation_steps.proofs.laws.CascadeSteps.{marks}
