@@ -32,7 +32,7 @@ past-never-changed d quotas mem done history closed =
     stays-after d mem history _ (begun .sound) (begun .stays) closed
 
 pub short-walks : ShortWalks
-short-walks d quotas mem done history = walk-is-short _ (sound-after history _ (opening-opens d quotas mem done .sound))
+short-walks d quotas mem done history = walk-is-short _ _ (sound-after history _ (opening-opens d quotas mem done .sound))
 
 pub visits-answered : VisitsAnswered
 visits-answered d quotas mem done history = visits.visits-answered _ (sound-after history _ (opening-opens d quotas mem done .sound))

@@ -1,7 +1,7 @@
 -- How many entries a space accepted and its rebuilds moved, as the calls answer it. An insert, a create or a new delegation that is given 0
 -- accepts one entry, and its count is what it moved; a copy's value is what it accepted and its count what it moved. A delegation that
--- returned a child that the target has already accepted none: the statistic of delegations, which counts the new ones (word 8 of the head, as
--- `stats` answers it), is as it was.
+-- returned a child that the target has already accepted none: the statistic of delegations, which counts the new ones and which `stats`
+-- answers, is as it was.
 use mathlib.Core.List.{List, [], _∷_}
 use mathlib.Core.Bool.{not}
 use Prim.Native.Nat.{ℕ, _+_}
@@ -12,6 +12,7 @@ use Rattle.base.specs.Below.{one}
 use Rattle.base.specs.Choose.{pick}
 use Rattle.steps.specs.Replies.{Left}
 use Rattle.steps.specs.declared.Reply.{Reply}
+use Rattle.world.specs.Numbers.{delegatedWord}
 use Rattle.history.specs.Call.{Accepting, Call, open-world, reads, accepts, changes, space-insert, space-copy, space-create, create, delegate}
 use Rattle.history.specs.Perform.{accept, perform}
 
@@ -27,13 +28,17 @@ targetOf (delegate token source target rights fits) = target
 abbrev pub given0 : Left Reply → ℕ
 given0 out = one (eqb (numberOf (out .reply .answer)) 0)
 
+-- The statistic of delegations.
+abbrev pub delegationsOf : List ℕ → ℕ
+delegationsOf mem = getD mem delegatedWord 0
+
 abbrev pub acceptedBy : Accepting → List ℕ → ℕ
 acceptedBy (space-insert s token object rights fits) mem = given0 (accept (space-insert s token object rights fits) mem)
 acceptedBy (space-copy target source) mem = accept (space-copy target source) mem .reply .value
 acceptedBy (space-create s rights object fits) mem = given0 (accept (space-create s rights object fits) mem)
 acceptedBy (create s object valid cap-type rights fits) mem = given0 (accept (create s object valid cap-type rights fits) mem)
 acceptedBy (delegate token source target rights fits) mem =
-    one (not (eqb (getD (accept (delegate token source target rights fits) mem .memory) 8 0) (getD mem 8 0)))
+    one (not (eqb (delegationsOf (accept (delegate token source target rights fits) mem .memory)) (delegationsOf mem)))
 
 -- Of one call, for space s.
 unfoldable pub acceptedIn : Call → ℕ → List ℕ → ℕ

@@ -8,7 +8,7 @@ use Rattle.base.specs.Below.{sum, one}
 use Rattle.manager_calls.specs.Delegation.{tokenOf, heldWith, openChild, offered, current}
 use Rattle.space.specs.Lookup.{lookedUp, searchId}
 use Rattle.space.specs.Words.{generationOf, quotaOf, tableOf, slotWords}
-use Rattle.steps.specs.Steps.{spaceOf, lookupStep, newEntry, takenId, takeStep, placeIn, objects, registerStep, listStep, collectStep, childrenOf}
+use Rattle.steps.specs.Steps.{spaceOf, lookupStep, takenId, takeStep, placeIn, objects, registerStep, listStep, collectStep, childrenOf}
 use Rattle.steps.specs.declared.Taken.the-variants.{Id}
 use Rattle.table.specs.Copy.{insertAll}
 use Rattle.table.specs.Insert.{Table, liveEntries, rebuilt, crowded, roomFor, madeRoom, none}
@@ -67,24 +67,30 @@ pub data Copies : List CapabilityEntry → Table → Walk → Type 0 where
   later-entry :
       (e : CapabilityEntry) (es : List CapabilityEntry) (t : Table) (w : Walk) → Copies es (insertAll (e ∷ []) t) w → Copies (e ∷ es) t w
 
--- ---- in the world's memory, whose numbers are d
+-- ---- on the words of one space
 
--- The search for an id in space s.
-abbrev pub seeking : Numbers → ℕ → ℕ → List ℕ → Walk
-seeking d s id mem = searching (slotWords (spaceOf d s mem)) (tableOf (spaceOf d s mem) .slots) id
+-- The search for an id.
+abbrev pub seeking : List ℕ → ℕ → Walk
+seeking sp id = searching (slotWords sp) (tableOf sp .slots) id
 
--- An insert into space s: the search for its id, and, where there is room by the quota and the id is absent, the placings.
-pub data InsertsIn (d : Numbers) (s : ℕ) (e : CapabilityEntry) (mem : List ℕ) : Walk → Type 0 where
-  testing : InsertsIn d s e mem (seeking d s (idOf e) mem)
+-- The look over a space: the search for the id of each live entry.
+pub data LooksOver (sp : List ℕ) : Walk → Type 0 where
+  looking : (i : ℕ) → i < tableOf sp .slots → isLive (slotWords sp) i ≡ true → LooksOver sp (seeking sp (idAt (slotWords sp) i))
+
+-- An insert: the search for its id, and, where there is room by the quota and the id is absent, the placings.
+pub data InsertsInto (sp : List ℕ) (id : ℕ) : Walk → Type 0 where
+  testing : InsertsInto sp id (seeking sp id)
   storing :
-      (w : Walk) → tableOf (spaceOf d s mem) .full < quotaOf (spaceOf d s mem) → searchId (spaceOf d s mem) (idOf e) .found ≡ Absent
-      → Inserts (slotWords (spaceOf d s mem)) (tableOf (spaceOf d s mem)) (idOf e) w → InsertsIn d s e mem w
+      (w : Walk) → tableOf sp .full < quotaOf sp → searchId sp id .found ≡ Absent → Inserts (slotWords sp) (tableOf sp) id w
+      → InsertsInto sp id w
 
--- The lookups of a delegation in its target, child after child, as `offeredFrom` makes them.
+-- ---- of a delegation, in the memory of a world whose numbers are d
+
+-- Its lookups in the target, child after child, as `offeredFrom` makes them.
 pub data Offers (d : Numbers) (target p cap-type rights : ℕ) : ℕ → ℕ → List ℕ → Walk → Type 0 where
   this-child :
       (k m : ℕ) (mem : List ℕ) → openChild d mem p k ≡ true
-      → Offers d target p cap-type rights k (suc m) mem (seeking d target (tokenId (tokenOf (ids d mem k) cap-type rights)) mem)
+      → Offers d target p cap-type rights k (suc m) mem (seeking (spaceOf d target mem) (tokenId (tokenOf (ids d mem k) cap-type rights)))
   after-a-miss :
       (k m : ℕ) (mem : List ℕ) (w : Walk) → openChild d mem p k ≡ true
       → heldWith rights (lookedUp (spaceOf d target mem) (tokenOf (ids d mem k) cap-type rights) .got) ≡ false
@@ -94,99 +100,89 @@ pub data Offers (d : Numbers) (target p cap-type rights : ℕ) : ℕ → ℕ →
       (k m : ℕ) (mem : List ℕ) (w : Walk) → openChild d mem p k ≡ false → Offers d target p cap-type rights (k + 1) m mem w
       → Offers d target p cap-type rights k (suc m) mem w
 
--- The memory of a delegation with room in its parent's list: as it is, or after a collection.
+-- The memory with room in the list of place p: as it is, or after a collection.
 pub data WithRoom (d : Numbers) (p : ℕ) (mem : List ℕ) : List ℕ → Type 0 where
   few-children : childrenOf d mem p < 1024 → WithRoom d p mem mem
   collected : 1024 ≤ childrenOf d mem p → childrenOf d (collectStep d p mem) p < 1024 → WithRoom d p mem (collectStep d p mem)
 
--- A new child's insert, once an id was taken and the parent found good, on the memory `mem` with room.
-pub data Derives (d : Numbers) (target token rights : ℕ) (mem : List ℕ) : Walk → Type 0 where
-  deriving-walk :
-      (id : ℕ) (w : Walk) → takenId d mem ≡ Id id → placeIn d (takeStep d mem) (tokenId token) < registeredOf (takeStep d mem)
-      → current d (takeStep d mem) token (placeIn d (takeStep d mem) (tokenId token)) ≡ true → registeredOf (takeStep d mem) < d .places
-      → InsertsIn d target
-      (newEntry (tokenOf id (typeOf token) rights) (objects d (takeStep d mem) (placeIn d (takeStep d mem) (tokenId token))) rights)
-      (registerStep d id (objects d (takeStep d mem) (placeIn d (takeStep d mem) (tokenId token)))
-      (suc (placeIn d (takeStep d mem) (tokenId token)))
-      (listStep d (placeIn d (takeStep d mem) (tokenId token)) (takeStep d mem)))
-      w
-      → Derives d target token rights mem w
+-- A new child's insert, once its id was taken, where place p is a good parent and the registry has room.
+pub record Derives (d : Numbers) (target token rights id p : ℕ) (mem : List ℕ) (w : Walk) : Type 0 where
+  pub registered : p < registeredOf mem
+  pub good : current d mem token p ≡ true
+  pub room : registeredOf mem < d .places
+  pub walk :
+      InsertsInto (spaceOf d target (registerStep d id (objects d mem p) (suc p) (listStep d p mem)))
+      (tokenId (tokenOf id (typeOf token) rights)) w
 
--- The look at the memory with which every call but an opening begins: in each space the search for the id of each live entry.
-pub data Looks (mem : List ℕ) : Walk → Type 0 where
-  looking :
-      (s i : ℕ) → s < numbersOf mem .spaces → i < tableOf (spaceOf (numbersOf mem) s mem) .slots
-      → isLive (slotWords (spaceOf (numbersOf mem) s mem)) i ≡ true
-      → Looks mem (seeking (numbersOf mem) s (idAt (slotWords (spaceOf (numbersOf mem) s mem)) i) mem)
+-- The same from the memory that the lookups leave: room is made in the parent's list, an id is taken.
+pub record MakesChild (d : Numbers) (target token rights : ℕ) (mem : List ℕ) (w : Walk) : Type 0 where
+  pub roomy : List ℕ
+  pub has-room : WithRoom d (placeIn d mem (tokenId token)) mem roomy
+  pub id : ℕ
+  pub taken : takenId d roomy ≡ Id id
+  pub walk : Derives d target token rights id (placeIn d (takeStep d roomy) (tokenId token)) (takeStep d roomy) w
+
+-- All that follow the lookup in the source, which found the token and is counted in mem; rights are the derived ones.
+pub data Delegates (d : Numbers) (target token rights : ℕ) (mem : List ℕ) : Walk → Type 0 where
+  offering :
+      (w : Walk) → Offers d target (placeIn d mem (tokenId token)) (typeOf token) rights 0 (registeredOf mem) mem w
+      → Delegates d target token rights mem w
+  making :
+      (w : Walk) → MakesChild d target token rights (offered d target token rights mem .memory) w → Delegates d target token rights mem w
 
 -- ---- every walk of a call: those of the look, then its own. Where a call is refused before one of them, it is listed all the same
 
-pub data Walks (mem : List ℕ) : Call → Walk → Type 0 where
-  before-reading : (call : Reading) (w : Walk) → Looks mem w → Walks mem (reads call) w
-  before-accepting : (call : Accepting) (w : Walk) → Looks mem w → Walks mem (accepts call) w
-  before-changing : (call : Changing) (w : Walk) → Looks mem w → Walks mem (changes call) w
-  in-get-entry : (s id : ℕ) → s < numbersOf mem .spaces → Walks mem (reads (space-get-entry s id)) (seeking (numbersOf mem) s id mem)
-  in-lookup :
-      (s token : ℕ) → s < numbersOf mem .spaces → Walks mem (changes (space-lookup s token)) (seeking (numbersOf mem) s (tokenId token) mem)
+-- The look with which every call but an opening begins.
+pub data Looks (d : Numbers) (mem : List ℕ) : Walk → Type 0 where
+  looking-over : (s : ℕ) (w : Walk) → s < d .spaces → LooksOver (spaceOf d s mem) w → Looks d mem w
+
+pub data WalksOf (d : Numbers) (mem : List ℕ) : Call → Walk → Type 0 where
+  before-reading : (call : Reading) (w : Walk) → Looks d mem w → WalksOf d mem (reads call) w
+  before-accepting : (call : Accepting) (w : Walk) → Looks d mem w → WalksOf d mem (accepts call) w
+  before-changing : (call : Changing) (w : Walk) → Looks d mem w → WalksOf d mem (changes call) w
+  in-get-entry : (s id : ℕ) → s < d .spaces → WalksOf d mem (reads (space-get-entry s id)) (seeking (spaceOf d s mem) id)
+  in-lookup : (s token : ℕ) → s < d .spaces → WalksOf d mem (changes (space-lookup s token)) (seeking (spaceOf d s mem) (tokenId token))
   in-lookup-entry :
-      (s token : ℕ) → s < numbersOf mem .spaces
-      → Walks mem (changes (space-lookup-entry s token)) (seeking (numbersOf mem) s (tokenId token) mem)
+      (s token : ℕ) → s < d .spaces → WalksOf d mem (changes (space-lookup-entry s token)) (seeking (spaceOf d s mem) (tokenId token))
   in-check-rights :
-      (s token required : ℕ) → s < numbersOf mem .spaces
-      → Walks mem (changes (space-check-rights s token required)) (seeking (numbersOf mem) s (tokenId token) mem)
-  in-remove :
-      (s token : ℕ) → s < numbersOf mem .spaces → Walks mem (changes (space-remove s token)) (seeking (numbersOf mem) s (tokenId token) mem)
+      (s token required : ℕ) → s < d .spaces
+      → WalksOf d mem (changes (space-check-rights s token required)) (seeking (spaceOf d s mem) (tokenId token))
+  in-remove : (s token : ℕ) → s < d .spaces → WalksOf d mem (changes (space-remove s token)) (seeking (spaceOf d s mem) (tokenId token))
   in-space-revoke :
-      (s id : ℕ) (t : CapabilityToken) → s < numbersOf mem .spaces → made id (generationOf (spaceOf (numbersOf mem) s mem)) 0 0 ≡ Token t
-      → Walks mem (changes (space-revoke s id)) (seeking (numbersOf mem) s (tokenId (t .0)) mem)
+      (s id : ℕ) (t : CapabilityToken) → s < d .spaces → made id (generationOf (spaceOf d s mem)) 0 0 ≡ Token t
+      → WalksOf d mem (changes (space-revoke s id)) (seeking (spaceOf d s mem) (tokenId (t .0)))
   in-check :
-      (token required s : ℕ) → s < numbersOf mem .spaces
-      → Walks mem (changes (check token required s)) (seeking (numbersOf mem) s (tokenId token) mem)
+      (token required s : ℕ) → s < d .spaces
+      → WalksOf d mem (changes (check token required s)) (seeking (spaceOf d s mem) (tokenId token))
   in-revoke-held :
-      (s token time : ℕ) (listed : List ℕ) → s < numbersOf mem .spaces
-      → Walks mem (changes (revoke-held s token time listed)) (seeking (numbersOf mem) s (tokenId token) mem)
+      (s token time : ℕ) (listed : List ℕ) → s < d .spaces
+      → WalksOf d mem (changes (revoke-held s token time listed)) (seeking (spaceOf d s mem) (tokenId token))
   in-insert :
-      (s token object rights : ℕ) (fits : rights < 2 ^ 32) (w : Walk) → s < numbersOf mem .spaces
-      → InsertsIn (numbersOf mem) s (newEntry token object rights) mem w → Walks mem (accepts (space-insert s token object rights fits)) w
+      (s token object rights : ℕ) (fits : rights < 2 ^ 32) (w : Walk) → s < d .spaces → InsertsInto (spaceOf d s mem) (tokenId token) w
+      → WalksOf d mem (accepts (space-insert s token object rights fits)) w
   in-copy :
-      (target source : ℕ) (w : Walk) → target < numbersOf mem .spaces → source < numbersOf mem .spaces
-      → Copies
-      (liveEntries (slotWords (spaceOf (numbersOf mem) source mem)) 0 (tableOf (spaceOf (numbersOf mem) source mem) .slots))
-      (record { words = slotWords (spaceOf (numbersOf mem) target mem); counts = none; moved = 0 })
-      w
-      → Walks mem (accepts (space-copy target source)) w
+      (target source : ℕ) (w : Walk) → target < d .spaces → source < d .spaces
+      → Copies (liveEntries (slotWords (spaceOf d source mem)) 0 (tableOf (spaceOf d source mem) .slots))
+      (record { words = slotWords (spaceOf d target mem); counts = none; moved = 0 }) w
+      → WalksOf d mem (accepts (space-copy target source)) w
   in-space-create :
-      (s rights object id : ℕ) (fits : rights < 2 ^ 32) (t : CapabilityToken) (w : Walk) → s < numbersOf mem .spaces
-      → takenId (numbersOf mem) mem ≡ Id id
-      → made id (generationOf (spaceOf (numbersOf mem) s (takeStep (numbersOf mem) mem))) 0 0 ≡ Token t
-      → InsertsIn (numbersOf mem) s (newEntry (t .0) object rights) (takeStep (numbersOf mem) mem) w
-      → Walks mem (accepts (space-create s rights object fits)) w
+      (s rights object id : ℕ) (fits : rights < 2 ^ 32) (t : CapabilityToken) (w : Walk) → s < d .spaces → takenId d mem ≡ Id id
+      → made id (generationOf (spaceOf d s (takeStep d mem))) 0 0 ≡ Token t
+      → InsertsInto (spaceOf d s (takeStep d mem)) (tokenId (t .0)) w
+      → WalksOf d mem (accepts (space-create s rights object fits)) w
   in-create :
-      (s object : ℕ) (valid : Bool) (cap-type rights id : ℕ) (fits : rights < 2 ^ 32) (w : Walk) → s < numbersOf mem .spaces
-      → takenId (numbersOf mem) mem ≡ Id id → registeredOf (takeStep (numbersOf mem) mem) < numbersOf mem .places
-      → InsertsIn (numbersOf mem) s (newEntry (tokenOf id cap-type rights) object rights)
-      (registerStep (numbersOf mem) id object 0 (takeStep (numbersOf mem) mem))
-      w
-      → Walks mem (accepts (create s object valid cap-type rights fits)) w
+      (s object : ℕ) (valid : Bool) (cap-type rights id : ℕ) (fits : rights < 2 ^ 32) (w : Walk) → s < d .spaces
+      → takenId d mem ≡ Id id → registeredOf (takeStep d mem) < d .places
+      → InsertsInto (spaceOf d s (registerStep d id object 0 (takeStep d mem))) (tokenId (tokenOf id cap-type rights)) w
+      → WalksOf d mem (accepts (create s object valid cap-type rights fits)) w
   in-delegate-source :
-      (token source target rights : ℕ) (fits : rights < 2 ^ 32) → source < numbersOf mem .spaces → target < numbersOf mem .spaces
-      → Walks mem (accepts (delegate token source target rights fits)) (seeking (numbersOf mem) source (tokenId token) mem)
-  in-delegate-offers :
-      (token source target rights : ℕ) (fits : rights < 2 ^ 32) (e : CapabilityEntry) (w : Walk) → source < numbersOf mem .spaces
-      → target < numbersOf mem .spaces → lookedUp (spaceOf (numbersOf mem) source mem) token .got ≡ Entry e
-      → Offers (numbersOf mem) target (placeIn (numbersOf mem) (lookupStep (numbersOf mem) source token mem) (tokenId token)) (typeOf token)
-      (common (e .rights .0) rights) 0 (registeredOf (lookupStep (numbersOf mem) source token mem))
-      (lookupStep (numbersOf mem) source token mem) w
-      → Walks mem (accepts (delegate token source target rights fits)) w
-  in-delegate-derives :
-      (token source target rights : ℕ) (fits : rights < 2 ^ 32) (e : CapabilityEntry) (roomy : List ℕ) (w : Walk)
-      → source < numbersOf mem .spaces → target < numbersOf mem .spaces
-      → lookedUp (spaceOf (numbersOf mem) source mem) token .got ≡ Entry e
-      → WithRoom (numbersOf mem)
-      (placeIn (numbersOf mem)
-      (offered (numbersOf mem) target token (common (e .rights .0) rights) (lookupStep (numbersOf mem) source token mem) .memory)
-      (tokenId token))
-      (offered (numbersOf mem) target token (common (e .rights .0) rights) (lookupStep (numbersOf mem) source token mem) .memory)
-      roomy
-      → Derives (numbersOf mem) target token (common (e .rights .0) rights) roomy w
-      → Walks mem (accepts (delegate token source target rights fits)) w
+      (token source target rights : ℕ) (fits : rights < 2 ^ 32) → source < d .spaces → target < d .spaces
+      → WalksOf d mem (accepts (delegate token source target rights fits)) (seeking (spaceOf d source mem) (tokenId token))
+  in-delegate :
+      (token source target rights : ℕ) (fits : rights < 2 ^ 32) (e : CapabilityEntry) (w : Walk) → source < d .spaces → target < d .spaces
+      → lookedUp (spaceOf d source mem) token .got ≡ Entry e
+      → Delegates d target token (common (e .rights .0) rights) (lookupStep d source token mem) w
+      → WalksOf d mem (accepts (delegate token source target rights fits)) w
+
+abbrev pub Walks : List ℕ → Call → Walk → Type 0
+Walks mem = WalksOf (numbersOf mem) mem

@@ -21,7 +21,7 @@ use Rattle.steps.proofs.laws.RegistrySteps.{register-step, recycle-step, add-st
 use Rattle.steps.proofs.laws.SpaceSteps.{insert-step-kept}
 use Rattle.steps.proofs.laws.TakeStep.{take-step-kept, taken-room}
 use Rattle.table.specs.declared.CapabilityEntry.{CapabilityEntry}
-use Rattle.world.specs.Numbers.{numbersOf, registeredOf}
+use Rattle.world.specs.Numbers.{numbersOf, createdWord, registeredOf}
 use Rattle.world.specs.Sound.{SoundAt, Sound}
 use Rattle.world.specs.declared.Numbers.{Numbers}
 use Rattle.history.specs.Counts.{given0}
@@ -85,7 +85,7 @@ module _ (mem : List ℕ) (sound : Sound mem) (s : ℕ) (inside : s < numbersOf 
           (changed-quiet d s inside _ _ _ _ _ (register-step d taken taken-sound (k .id) object 0 (recording .room))))
           (admission-pays d s inside recorded (registered-kept d taken (k .id) object 0 recording .sound) t (k .asked .there)
           (create.entryFor mem t object valid cap-type rights k) fits
-          (rw (create.recorded-space mem t object valid cap-type rights k room) takes) 7 (omega arith) (omega arith))
+          (rw (create.recorded-space mem t object valid cap-type rights k room) takes) createdWord (omega arith) (omega arith))
 
     pub create-pays : Paid (createOut mem t object valid cap-type rights)
     create-pays = subst Paid (sym (create.goes mem t object valid cap-type rights way)) (go way)

@@ -1,5 +1,5 @@
--- Delegate pays for the moves in space s, whatever it answers. A new child, whose entry the target accepted, is told by word 8 of the head,
--- the statistic of delegations: it counts in 64 bits, so it differs then, and every step before leaves it as it was.
+-- Delegate pays for the moves in space s, whatever it answers. A new child, whose entry the target accepted, is told by the statistic of
+-- delegations: it counts in 64 bits, so it differs then, and every step before leaves it as it was.
 use mathlib.Core.Bool.{not}
 use mathlib.Core.List.{List}
 use mathlib.Core.Logic.{_≢_}
@@ -9,7 +9,6 @@ use native.Mathlib.Omega.{arith}
 use borrow.Author.Tests.{ne-eqb}
 use lib.Bits.{and-le-r}
 use lib.Dec.{eqb}
-use lib.ListN.{getD}
 use Rattle.base.specs.Below.{one}
 use Rattle.manager_calls.specs.Calls.{delegateOut}
 use Rattle.manager_laws.proofs.laws.Delegated as delegate
@@ -29,9 +28,10 @@ use Rattle.steps.proofs.laws.SpaceSteps.{lookup-step-kept, insert-step-kept}
 use Rattle.steps.proofs.laws.TakeStep.{take-step-kept, taken-room}
 use Rattle.table.specs.declared.CapabilityEntry.{CapabilityEntry}
 use Rattle.token.specs.Token.{typeOf}
-use Rattle.world.specs.Numbers.{numbersOf, registeredOf}
+use Rattle.world.specs.Numbers.{numbersOf, delegatedWord, registeredOf}
 use Rattle.world.specs.Sound.{SoundAt}
 use Rattle.world.specs.declared.Numbers.{Numbers}
+use Rattle.history.specs.Counts.{delegationsOf}
 use Rattle.history.proofs.laws.CreateMoves.{admission-pays}
 use Rattle.history.proofs.laws.Paid.{Pays, Quiet, within, quiet-refl, quiet-same, quiet-first, quiet-trans, quiet-pays, changed-quiet, take-quiet, lookup-quiet}
 
@@ -40,7 +40,7 @@ use Rattle.history.proofs.laws.Paid.{Pays, Quiet, within, quiet-refl, q
 record Along (d : Numbers) (s : ℕ) (mem after : List ℕ) : Type 0 where
   sound : SoundAt d after
   quiet : Quiet d s mem after
-  delegated : getD after 8 0 ≡ getD mem 8 0
+  delegated : delegationsOf after ≡ delegationsOf mem
 
 module _ (d : Numbers) (s : ℕ) (inside : s < d .spaces) where
   along-trans : (mem mid after : List ℕ) → Along d s mem mid → Along d s mid after → Along d s mem after
@@ -51,11 +51,12 @@ module _ (d : Numbers) (s : ℕ) (inside : s < d .spaces) where
   }
 
   along-changed :
-      (mem rg : List ℕ) (i v : ℕ) (after : List ℕ) → RegistryChanged d rg i v mem after → 8 ≢ i → SoundAt d after → Along d s mem after
+      (mem rg : List ℕ) (i v : ℕ) (after : List ℕ) → RegistryChanged d rg i v mem after → delegatedWord ≢ i → SoundAt d after
+      → Along d s mem after
   along-changed mem rg i v after changed other sound = record {
     sound = sound;
     quiet = changed-quiet d s inside mem rg i v after changed;
-    delegated = changed .same-word 8 (omega arith) other;
+    delegated = changed .same-word delegatedWord (omega arith) other;
   }
 
   module _ (mem : List ℕ) (sound : SoundAt d mem) where
@@ -66,7 +67,7 @@ module _ (d : Numbers) (s : ℕ) (inside : s < d .spaces) where
     along-lookup t there token = record {
       sound = lookup-step-kept d mem sound t there token .sound;
       quiet = lookup-quiet d s inside mem sound t there token;
-      delegated = lookup-step d mem sound t there token .only .same-head 8 (omega arith);
+      delegated = lookup-step d mem sound t there token .only .same-head delegatedWord (omega arith);
     }
 
     along-roomed : (token : ℕ) → Along d s mem (roomed d token mem)
@@ -81,7 +82,7 @@ module _ (d : Numbers) (s : ℕ) (inside : s < d .spaces) where
     along-take = record {
       sound = take-step-kept d mem sound .sound;
       quiet = take-quiet d s inside mem sound;
-      delegated = take-step d mem sound .same-head 8 (omega arith) (λ e. omega arith) (λ e. omega arith);
+      delegated = take-step d mem sound .same-head delegatedWord (omega arith) (λ e. omega arith) (λ e. omega arith);
     }
 
 -- ---- the call
@@ -160,21 +161,23 @@ module _ (mem : List ℕ) (s : ℕ) (inside : s < numbersOf mem .spaces) (token 
       small = omega (arith, and-le-r (t .asked .granted .entry .rights .0) rights)
 
       -- The statistic counts.
-      counted : getD (addStep 8 1 (insertStep d target child recorded)) 8 0 ≢ getD mem 8 0
+      counted : delegationsOf (addStep delegatedWord 1 (insertStep d target child recorded)) ≢ delegationsOf mem
       counted e =
           let there = t .asked .granted .entered .to in
           let came = insert-step-kept d recorded (recorded-along .sound) target there child small in
-          let head : getD (insertStep d target child recorded) 8 0 ≡ getD mem 8 0 =
-          insert-step d recorded (recorded-along .sound) target there child small .only .same-head 8 (omega arith)
+          let head : delegationsOf (insertStep d target child recorded) ≡ delegationsOf mem =
+          insert-step d recorded (recorded-along .sound) target there child small .only .same-head delegatedWord (omega arith)
           ∙ recorded-along .delegated in
-          omega (arith, e, head, add-step d (insertStep d target child recorded) (came .sound .long-enough) 8 1 (omega arith) (omega arith) .new-word)
+          let added =
+          add-step d (insertStep d target child recorded) (came .sound .long-enough) delegatedWord 1 (omega arith) (omega arith) in
+          omega (arith, e, head, added .new-word)
 
   -- ---- every way
 
   abbrev Paid : Left Reply → Type 0
   Paid out =
       Pays (numbersOf mem) s mem (out .memory) (within s target (out .reply .count))
-      (within s target (one (not (eqb (getD (out .memory) 8 0) (getD mem 8 0)))))
+      (within s target (one (not (eqb (delegationsOf (out .memory)) (delegationsOf mem)))))
 
   accepted :
       (g : delegate.Good mem token source target rights)
@@ -188,7 +191,7 @@ module _ (mem : List ℕ) (s : ℕ) (inside : s < numbersOf mem .spaces) (token 
       (quiet-first d s mem _ _ _ _ (came .quiet)
       (admission-pays d s inside _ (came .sound) target (g .took .asked .granted .entered .to)
       (delegate.childEntry mem token source target rights (g .took)) (small g room)
-      (rw (delegate.recorded-space mem token source target rights (g .took) (g .inside) (g .good) room) takes) 8 (omega arith)
+      (rw (delegate.recorded-space mem token source target rights (g .took) (g .inside) (g .good) room) takes) delegatedWord (omega arith)
       (omega arith)))
 
   pub delegate-pays : Paid (delegateOut mem token source target rights)

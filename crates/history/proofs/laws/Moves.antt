@@ -17,7 +17,7 @@ use Rattle.steps.specs.declared.Reply.{Reply}
 use Rattle.steps.proofs.laws.RegistrySteps.{unregister-step, unregister-step-kept, recycle-step, add-step}
 use Rattle.table.proofs.laws.Potential.{none-pays}
 use Rattle.token.specs.Token.{idOf}
-use Rattle.world.specs.Numbers.{numbersOf, recycledOf}
+use Rattle.world.specs.Numbers.{numbersOf, deletedWord, recycledOf}
 use Rattle.world.specs.Open.{openSpace, opened}
 use Rattle.world.specs.Opened.{opened-view}
 use Rattle.world.specs.Regions.{space, lengthFor}
@@ -60,7 +60,7 @@ module _ (mem : List ℕ) (sound : Sound mem) (s : ℕ) (inside : s < numbersOf 
       quiet-trans d s mem _ _ (changed-quiet d s inside _ _ _ _ _ left)
       (quiet-trans d s _ _ _ (changed-quiet d s inside _ _ _ _ _ (recycle-step d _ (gone .sound) (idOf token) again))
       (changed-quiet d s inside _ _ _ _ _
-      (add-step d _ (deleted-kept d mem sound (idOf token) there room .sound .long-enough) 10 1 (omega arith) (omega arith)))))
+      (add-step d _ (deleted-kept d mem sound (idOf token) there room .sound .long-enough) deletedWord 1 (omega arith) (omega arith)))))
 
   check-calm : (token required t : ℕ) → Calm (checkOut mem token required t)
   check-calm token required t =

@@ -17,7 +17,7 @@ use Rattle.steps.proofs.laws.Ready.{space-of}
 use Rattle.steps.proofs.laws.RegistrySteps.{collect-step-kept}
 use Rattle.steps.proofs.laws.SpaceSteps.{lookup-step-kept}
 use Rattle.steps.proofs.laws.TakeStep.{take-step-kept}
-use Rattle.steps.specs.Steps.{spaceOf, lookupStep, takeStep, placeIn, objects, listStep, childrenOf}
+use Rattle.steps.specs.Steps.{spaceOf, takeStep, placeIn, objects, listStep, childrenOf}
 use Rattle.table.proofs.laws.Copy.{Copying, copyOne, copying-first, copying-room, copying-more, copying-same}
 use Rattle.table.proofs.laws.Insert.{insert-walk-visits}
 use Rattle.table.proofs.laws.Rebuild.{rebuild-walk-visits}
@@ -30,16 +30,15 @@ use Rattle.table.specs.Slots.{isLive, idAt, idOf, entryAt}
 use Rattle.table.specs.Sound as table
 use Rattle.table.specs.declared.CapTable.{CapTable}
 use Rattle.table.specs.declared.CapabilityEntry.{CapabilityEntry}
-use Rattle.token.specs.Rights.{common}
 use Rattle.token.specs.Token.{typeOf, idOf as tokenId}
 use Rattle.manager_laws.proofs.laws.SameRegistered.{take-same, same-place, same-children}
 use Rattle.manager_laws.proofs.laws.Sound.{registered-kept, taken-in-hand, parentless, offered-kept, parent-registered, collected-place, child-registration}
-use Rattle.world.specs.Numbers.{numbersOf, registeredOf}
-use Rattle.world.specs.Sound.{states, SoundAt, Sound}
+use Rattle.world.specs.Numbers.{registeredOf}
+use Rattle.world.specs.Sound.{states, SoundAt}
 use Rattle.world.specs.declared.Numbers.{Numbers}
 use Rattle.history.specs.Call.{Call}
-use Rattle.history.specs.Walks.{Walk, Inserts, moving, entering, Copies, this-entry, later-entry, seeking, InsertsIn, testing, storing, Offers, this-child, after-a-miss, past-others, WithRoom, few-children, collected, Derives, deriving-walk, Looks, looking, Walks}
-use Rattle.history.specs.Walks.{before-reading, before-accepting, before-changing, in-get-entry, in-lookup, in-lookup-entry, in-check-rights, in-remove, in-space-revoke, in-check, in-revoke-held, in-insert, in-copy, in-space-create, in-create, in-delegate-source, in-delegate-offers, in-delegate-derives}
+use Rattle.history.specs.Walks.{Walk, Inserts, moving, entering, Copies, this-entry, later-entry, seeking, InsertsInto, testing, storing, Offers, this-child, after-a-miss, past-others, WithRoom, few-children, collected, MakesChild, Delegates, offering, making, looking, Looks, looking-over, WalksOf}
+use Rattle.history.specs.Walks.{before-reading, before-accepting, before-changing, in-get-entry, in-lookup, in-lookup-entry, in-check-rights, in-remove, in-space-revoke, in-check, in-revoke-held, in-insert, in-copy, in-space-create, in-create, in-delegate-source, in-delegate}
 
 abbrev Short : Walk → Type 0
 Short w = w .visits ≤ w .live + w .removed + 1
@@ -108,14 +107,14 @@ module _ (d : Numbers) (mem : List ℕ) (sound : SoundAt d mem) (s : ℕ) (valid
   abbrev sp : List ℕ
   sp = spaceOf d s mem
 
-  seeking-short : (id : ℕ) → Short (seeking d s id mem)
+  seeking-short : (id : ℕ) → Short (seeking sp id)
   seeking-short id = visits-le (slotWords sp) (tableOf sp .slots) id (sound .spaces s valid .table .coded)
 
-  insert-short : (e : CapabilityEntry) (w : Walk) → InsertsIn d s e mem w → Short w
-  insert-short e _ testing = seeking-short (idOf e)
-  insert-short e _ (storing w under absent walk) =
+  insert-short : (id : ℕ) (w : Walk) → InsertsInto sp id w → Short w
+  insert-short id _ testing = seeking-short id
+  insert-short id _ (storing w under absent walk) =
       inserts-short (d .most) (slotWords sp) (tableOf sp) (sound .spaces s valid .table) (omega (arith, sound .spaces s valid .quota))
-      (long (d .most) sp (space-of d mem sound s valid)) (idOf e) w walk
+      (long (d .most) sp (space-of d mem sound s valid)) id w walk
 
 -- ---- delegate
 
@@ -139,30 +138,38 @@ module _ (d : Numbers) (mem : List ℕ) (sound : SoundAt d mem) (token : ℕ) wh
       let inside = parent-registered d mem sound p (omega arith) in
       (collect-step-kept d mem sound p inside .sound, rw (collected-place d mem sound p inside (tokenId token) refl) few)
 
-  derives-short :
-      (target rights : ℕ) (w : Walk) → target < d .spaces → childrenOf d mem (placeIn d mem (tokenId token)) < 1024
-      → Derives d target token rights mem w → Short w
-  derives-short target rights _ valid few (deriving-walk id w taken inside is-current room walks) =
-      let after : List ℕ = takeStep d mem in
+  makes-short : (target rights : ℕ) (w : Walk) → target < d .spaces → MakesChild d target token rights mem w → Short w
+  makes-short target rights w valid child =
+      let roomy : List ℕ = child .roomy in
+      let (still, few) = with-room roomy (child .has-room) in
+      let after : List ℕ = takeStep d roomy in
       let p : ℕ = placeIn d after (tokenId token) in
-      let taking = take-step-kept d mem sound in
-      let same = take-same d mem sound in
-      let still : childrenOf d after p < 1024 =
-      rw (same-place d mem after same (tokenId token), same-children d mem after same (placeIn d mem (tokenId token))) few in
-      let unrevoked = eqb-true (revoked (states d after p)) 0 (both-left (eqb (revoked (states d after p)) 0) _ is-current) in
-      let child = child-registration d after (taking .sound) p inside id room (taken-in-hand d mem sound id taken) unrevoked still in
-      insert-short d _ (registered-kept d (listStep d p after) id (objects d after p) (suc p) child .sound) target valid _ w walks
+      let derives = child .walk in
+      let same = take-same d roomy still in
+      let few-after : childrenOf d after p < 1024 =
+      rw (same-place d roomy after same (tokenId token), same-children d roomy after same (placeIn d roomy (tokenId token))) few in
+      let unrevoked = eqb-true (revoked (states d after p)) 0 (both-left (eqb (revoked (states d after p)) 0) _ (derives .good)) in
+      let registration =
+      child-registration d after (take-step-kept d roomy still .sound) p (derives .registered) (child .id) (derives .room)
+      (taken-in-hand d roomy still (child .id) (child .taken)) unrevoked few-after in
+      insert-short d _ (registered-kept d (listStep d p after) (child .id) (objects d after p) (suc p) registration .sound) target valid _ w
+      (derives .walk)
+
+delegates-short :
+    (d : Numbers) (mem : List ℕ) (target token rights : ℕ) (w : Walk) → SoundAt d mem → target < d .spaces
+    → Delegates d target token rights mem w → Short w
+delegates-short d mem target token rights _ sound to (offering w walks) = offers-short d target _ _ _ 0 _ mem w to sound walks
+delegates-short d mem target token rights _ sound to (making w child) =
+    let offers = offered-kept d target (placeIn d mem (tokenId token)) (typeOf token) rights 0 (registeredOf mem) mem to sound in
+    makes-short d _ (offers .sound) token target rights w to child
 
 -- ---- every call
 
-module _ (mem : List ℕ) (sound : Sound mem) where
-  abbrev d : Numbers
-  d = numbersOf mem
+module _ (d : Numbers) (mem : List ℕ) (sound : SoundAt d mem) where
+  look-short : (w : Walk) → Looks d mem w → Short w
+  look-short _ (looking-over s _ valid (looking i l live)) = seeking-short d mem sound s valid _
 
-  look-short : (w : Walk) → Looks mem w → Short w
-  look-short _ (looking s i valid l live) = seeking-short d mem sound s valid _
-
-  pub walk-is-short : (call : Call) (w : Walk) → Walks mem call w → w .visits ≤ w .live + w .removed + 1
+  pub walk-is-short : (call : Call) (w : Walk) → WalksOf d mem call w → w .visits ≤ w .live + w .removed + 1
   walk-is-short _ _ (before-reading call w look) = look-short w look
   walk-is-short _ _ (before-accepting call w look) = look-short w look
   walk-is-short _ _ (before-changing call w look) = look-short w look
@@ -185,13 +192,5 @@ module _ (mem : List ℕ) (sound : Sound mem) where
       let alone = parentless d _ (taking .sound) id room (taken-in-hand d mem sound id taken) in
       insert-short d _ (registered-kept d _ id object 0 alone .sound) s valid _ w walks
   walk-is-short _ _ (in-delegate-source token source target rights fits from to) = seeking-short d mem sound source from _
-  walk-is-short _ _ (in-delegate-offers token source target rights fits e w from to found walks) =
-      offers-short d target _ _ _ 0 _ _ w to (lookup-step-kept d mem sound source from token .sound) walks
-  walk-is-short _ _ (in-delegate-derives token source target rights fits e roomy w from to found room walks) =
-      let looked : List ℕ = lookupStep d source token mem in
-      let shared : ℕ = common (e .rights .0) rights in
-      let offers =
-      offered-kept d target (placeIn d looked (tokenId token)) (typeOf token) shared 0 (registeredOf looked) looked to
-      (lookup-step-kept d mem sound source from token .sound) in
-      let (still, few) = with-room d _ (offers .sound) token roomy room in
-      derives-short d roomy still token target shared w to few walks
+  walk-is-short _ _ (in-delegate token source target rights fits e w from to found walks) =
+      delegates-short d _ target token _ w (lookup-step-kept d mem sound source from token .sound) to walks

@@ -74,26 +74,28 @@ module _ (mem : List ℕ) (sound : Sound mem) (s : ℕ) (valid : s < numbersOf m
   entered refuse call = space-called refuse mem call sound s valid
 
   pub visits-answered : VisitsOf mem s
-  unfolding space.lookupOut space.lookupEntryOut space.checkRightsOut space.getEntryOut space.removeOut space.revokeOut manager.checkOut revocation.revokeHeldOut lookedUp gotEntry
+  unfolding
+      space.lookupOut space.lookupEntryOut space.checkRightsOut space.getEntryOut space.removeOut space.revokeOut manager.checkOut
+      revocation.revokeHeldOut lookedUp gotEntry
   visits-answered = record {
     of-lookup = λ token. (
-      seeking d s (idOf token) mem,
+      seeking (spaceOf d s mem) (idOf token),
       (in-lookup s token valid, ap counts (entered _ _) ∙ found-visits (λ e. e .rights .0) (found token .got) (found token .visits)),
     );
     of-lookup-entry = λ token. (
-      seeking d s (idOf token) mem,
+      seeking (spaceOf d s mem) (idOf token),
       (
         in-lookup-entry s token valid,
         ap (λ (out : Left EntryReply). out .reply .visits) (entered _ _) ∙ entry-visits (found token .got) (found token .visits),
       ),
     );
     of-check-rights = λ token required. (
-      seeking d s (idOf token) mem,
+      seeking (spaceOf d s mem) (idOf token),
       (in-check-rights s token required valid, ap counts (entered _ _) ∙ held-visits required (found token .got) (found token .visits)),
     );
     of-get-entry = λ id fits.
         let got : LookedUp = gotEntry (spaceOf d s mem) id in (
-          seeking d s id mem,
+          seeking (spaceOf d s mem) id,
           (
             in-get-entry s id valid,
             ap (λ (out : EntryReply). out .visits)
@@ -102,18 +104,18 @@ module _ (mem : List ℕ) (sound : Sound mem) (s : ℕ) (valid : s < numbersOf m
           ),
         );
     of-remove = λ token. (
-      seeking d s (idOf token) mem,
+      seeking (spaceOf d s mem) (idOf token),
       (in-remove s token valid, ap counts (entered _ _) ∙ found-visits (λ e. e .object) (found token .got) (found token .visits)),
     );
     of-space-revoke = λ id t is. (
-      seeking d s (idOf (t .0)) mem,
+      seeking (spaceOf d s mem) (idOf (t .0)),
       (
         in-space-revoke s id t valid is,
         ap counts (entered _ _ ∙ ap (space.revokeMade d s mem) is) ∙ found-visits (λ e. 0) (found (t .0) .got) (found (t .0) .visits),
       ),
     );
     of-check = λ token required. (
-      seeking d s (idOf token) mem,
+      seeking (spaceOf d s mem) (idOf token),
       (
         in-check token required s valid,
         ap counts (entered _ _)
@@ -121,7 +123,7 @@ module _ (mem : List ℕ) (sound : Sound mem) (s : ℕ) (valid : s < numbersOf m
       ),
     );
     of-revoke-held = λ token time listed few. (
-      seeking d s (idOf token) mem,
+      seeking (spaceOf d s mem) (idOf token),
       (
         in-revoke-held s token time listed valid,
         ap counts (entered _ _ ∙ when-no _ _ _ (le-ltb 32 (length listed) few))
