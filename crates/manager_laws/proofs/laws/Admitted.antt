@@ -59,7 +59,8 @@ module _ (d : Numbers) (s id token object rights i : ℕ) (mem : List ℕ) where
 
   pub admitted-taken :
       Accepts (spaceOf d s mem) (newEntry token object rights)
-      → admitted d s id token object rights i mem ≡ record { reply = replied Done token (insertOut sp e .moved); memory = addStep i 1 after }
+      → admitted d s id token object rights i mem
+      ≡ record { reply = replied Done token (insertOut sp e .moved); memory = addStep i 1 after }
   unfolding admitted
   admitted-taken a = rw (eq-eqb (numberOf (insertOut sp e .answer)) 0 (ap numberOf (accepted-done sp e a)))
 

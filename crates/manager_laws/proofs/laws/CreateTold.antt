@@ -1,5 +1,5 @@
--- When each answer of create is given: 26 exactly on memory that is not sound, 20 exactly on a sound one for a space number of S or more, and
--- 21, 5, 9, 22, 4 and 0 exactly in their stated cases.
+-- When each answer of create is given: 26 exactly on memory that is not sound, 20 exactly on a sound one for a space number of S or more,
+-- and 21, 5, 9, 22, 4 and 0 exactly in their stated cases.
 use mathlib.Core.Bool.{Bool, false}
 use mathlib.Core.List.{List}
 use mathlib.Core.Logic.{_↔_}

@@ -1,5 +1,5 @@
--- When each answer of delegate is given: 26 exactly on memory that is not sound, 20 exactly on a sound one where either space number is S or
--- more, and 1, 6, 10, 9, 3, 22, 4 and 0 exactly in their stated cases.
+-- When each answer of delegate is given: 26 exactly on memory that is not sound, 20 exactly on a sound one where either space number is S
+-- or more, and 1, 6, 10, 9, 3, 22, 4 and 0 exactly in their stated cases.
 use mathlib.Core.Bool.{Bool, true, false}
 use mathlib.Core.List.{List}
 use mathlib.Core.Logic.{_↔_, _⊎_, inl, inr, ⊎-elim, by-cases}

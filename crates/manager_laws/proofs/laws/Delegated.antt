@@ -248,10 +248,12 @@ module _ (mem : List ℕ) (token source target rights : ℕ) where
   granted-goes : (g : Granted) → delegateOut mem token source target rights ≡ offering d target token (shared g) (offer g)
   granted-goes g = found-goes (g .entered) (g .entry) (g .found) ∙ when-no _ _ _ (ap not (g .grant))
 
-  none-goes : (g : Granted) → offer g .held ≡ false → delegateOut mem token source target rights ≡ withRoom d target token (shared g) (offer g .memory)
-  none-goes g none =
-      granted-goes g
-      ∙ ap (λ b. pick b (record { reply = done (offer g .token); memory = offer g .memory }) (withRoom d target token (shared g) (offer g .memory))) none
+  -- By whether the target holds a child already.
+  offer-goes :
+      (g : Granted) (b : Bool) → offer g .held ≡ b
+      → delegateOut mem token source target rights
+      ≡ pick b (record { reply = done (offer g .token); memory = offer g .memory }) (withRoom d target token (shared g) (offer g .memory))
+  offer-goes g b is = rw (← is) (granted-goes g)
 
   asked-goes :
       (a : Asked)
@@ -259,7 +261,7 @@ module _ (mem : List ℕ) (token source target rights : ℕ) where
       ≡ derived d target token (shared (a .granted)) (takeStep d (base (a .granted))) (takenId d (base (a .granted)))
   unfolding withId
   asked-goes a =
-      none-goes (a .granted) (a .none-held) ∙ roomed-goes d token (offer (a .granted) .memory) target (shared (a .granted)) (a .few)
+      offer-goes (a .granted) false (a .none-held) ∙ roomed-goes d token (offer (a .granted) .memory) target (shared (a .granted)) (a .few)
 
   took-goes :
       (t : Took)
@@ -301,7 +303,8 @@ module _ (mem : List ℕ) (token source target rights : ℕ) where
       stale-goes is = took-goes t ∙ when-no _ _ _ (ap not inside-still) ∙ when-yes _ _ _ (ap not (as-current ∙ is))
 
       module _ (good : current (numbersOf mem) (from t) token (parent t) ≡ true) where
-        full-goes : numbersOf mem .places ≤ registeredOf (from t) → delegateOut mem token source target rights ≡ refuse (back t) RegistryFull
+        full-goes :
+            numbersOf mem .places ≤ registeredOf (from t) → delegateOut mem token source target rights ≡ refuse (back t) RegistryFull
         full-goes over =
             took-goes t ∙ when-no _ _ _ (ap not inside-still) ∙ when-no _ _ _ (ap not (as-current ∙ good))
             ∙ when-yes _ _ _ (ap not (le-ltb (registeredOf taken) (d .places) (rw (same .same-count) over)))
@@ -343,10 +346,8 @@ module _ (mem : List ℕ) (token source target rights : ℕ) where
       space-called (refuse mem) mem _ sound source there ∙ when-yes _ _ _ (ap not (le-ltb target (d .spaces) far))
   goes (absent entered none) = entered-goes entered ∙ ap (granting d target token rights looked) none
   goes (ungranted entered e found none) = found-goes entered e found ∙ when-yes _ _ _ (ap not none)
-  goes (reused g held) =
-      granted-goes g
-      ∙ ap (λ b. pick b (record { reply = done (offer g .token); memory = offer g .memory }) (withRoom d target token (shared g) (offer g .memory))) held
-  goes (crowded g none many) = none-goes g none ∙ crowded-goes d token (offer g .memory) target (shared g) many
+  goes (reused g held) = offer-goes g true held
+  goes (crowded g none many) = offer-goes g false none ∙ crowded-goes d token (offer g .memory) target (shared g) many
   goes (exhausted a is) = asked-goes a ∙ ap (derived d target token (shared (a .granted)) (takeStep d (base (a .granted)))) is
   goes (orphaned t outside) = outside-goes t outside
   goes (stale t inside is) = stale-goes t inside is

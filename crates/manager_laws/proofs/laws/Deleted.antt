@@ -1,5 +1,5 @@
--- What a delete given 0 does, in ids: exactly its id leaves the registry, entries in spaces stay, its children have no parent then, and every
--- other id keeps its object, its state and its parent.
+-- What a delete given 0 does, in ids: exactly its id leaves the registry, entries in spaces stay, its children have no parent then, and
+-- every other id keeps its object, its state and its parent.
 use mathlib.Core.List.{List}
 use mathlib.Core.Logic.{_↔_, _≢_}
 use mathlib.Core.Path.{_≡_, sym, ap, subst, _∙_}
@@ -180,7 +180,8 @@ pub delete-alone :
     (mem : List ℕ) (token : ℕ) → deleteOut mem token .reply .answer ≡ Done
     → DeletedAlone (numbersOf mem) (idOf token) mem (deleteOut mem token .memory)
 delete-alone mem token =
-    delete-by-cases mem token (λ (out : Left Reply). out .reply .answer ≡ Done → DeletedAlone (numbersOf mem) (idOf token) mem (out .memory))
+    delete-by-cases mem token
+    (λ (out : Left Reply). out .reply .answer ≡ Done → DeletedAlone (numbersOf mem) (idOf token) mem (out .memory))
     (λ bad e. absurd (omega (arith, ap numberOf e)))
     (λ sound outside e. absurd (omega (arith, ap numberOf e)))
     (λ sound inside full e. absurd (omega (arith, ap numberOf e)))

@@ -92,7 +92,9 @@ roomed-none d token mem sound =
     (λ many. none-same d mem _ (collect-ids d mem sound _ (parent-registered d mem sound _ (omega arith))))
 
 module _ (mem : List ℕ) (token source target rights : ℕ) where
-  looked-none : delegate.Entered mem token source target rights → NoneFreed (numbersOf mem) mem (delegate.looked mem token source target rights)
+  looked-none :
+      delegate.Entered mem token source target rights
+      → NoneFreed (numbersOf mem) mem (delegate.looked mem token source target rights)
   looked-none at = none-same (numbersOf mem) mem _ (lookup-ids (numbersOf mem) mem (at .sound) source (at .from) token)
 
   offer-none :
@@ -110,7 +112,9 @@ module _ (mem : List ℕ) (token source target rights : ℕ) where
       ))
       0 (registeredOf looked) looked (lookup-step-kept d mem (at .sound) source (at .from) token .sound, looked-none at) .1
 
-  base-none : (g : delegate.Granted mem token source target rights) → NoneFreed (numbersOf mem) mem (delegate.base mem token source target rights g)
+  base-none :
+      (g : delegate.Granted mem token source target rights)
+      → NoneFreed (numbersOf mem) mem (delegate.base mem token source target rights g)
   base-none g =
       none-trans (numbersOf mem) mem _ _ (offer-none g)
       (roomed-none (numbersOf mem) token _ (delegate.offer-sound mem token source target rights g))
@@ -159,7 +163,8 @@ module _ (mem : List ℕ) (token source target rights : ℕ) where
 
     pub delegate-frees-none : NoneFreed (numbersOf mem) mem (delegateOut mem token source target rights .memory)
     delegate-frees-none =
-        subst (λ (out : Left Reply). NoneFreed (numbersOf mem) mem (out .memory)) (sym (delegate.goes mem token source target rights way)) (go way)
+        subst (λ (out : Left Reply). NoneFreed (numbersOf mem) mem (out .memory))
+        (sym (delegate.goes mem token source target rights way)) (go way)
       where
         way : WayOut
         way = delegate.way mem token source target rights
@@ -306,7 +311,8 @@ module _ (mem : List ℕ) (token source target rights : ℕ) where
   delegate-new =
       delegate.delegate-by-ways mem token source target rights
       (λ (out : Left Reply).
-      out .reply .answer ≡ Done → delegate.Returned mem token source target rights (out .reply .value) ⊎ Unspent mem (idOf (out .reply .value)))
+      out .reply .answer ≡ Done
+      → delegate.Returned mem token source target rights (out .reply .value) ⊎ Unspent mem (idOf (out .reply .value)))
       (λ after a some e. absurd (some (ap numberOf e)))
       (λ g held e. inl (g, (held, refl)))
       (λ g room a e.

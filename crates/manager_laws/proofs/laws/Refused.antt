@@ -44,9 +44,12 @@ module _ (mem : List ℕ) where
   unfolding checkOut
   check-entered token required s =
       told answerOf _ mem _ (λ a. refl)
-      (when-by-cases Fine _ _ (not (grants required (lookedUp (spaceOf d s mem) token .got))) (λ without. inner InsufficientRights refl refl)
+      (when-by-cases Fine _ _ (not (grants required (lookedUp (spaceOf d s mem) token .got)))
+      (λ without. inner InsufficientRights refl refl)
       (λ granted.
-      when-by-cases Fine _ _ (not (validIn d (lookupStep d s token mem) token)) (λ stale. inner CapabilityRevoked refl refl) (λ good. inner-0)))
+      when-by-cases Fine _ _ (not (validIn d (lookupStep d s token mem) token))
+      (λ stale. inner CapabilityRevoked refl refl)
+      (λ good. inner-0)))
       s
 
   pub census-entered : (s : ℕ) → Told mem s (censusOut mem s .answer)

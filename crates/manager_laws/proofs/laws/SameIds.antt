@@ -41,12 +41,12 @@ module _ (d : Numbers) (mem : List ℕ) where
     same-recycled = same-recycled (d .places) _ _ (only .only-holders);
   }
 
-  -- Only the registry before the recycled ids changes, and another word of the head.
+  -- Only the registry before the recycled ids changes, and a word of the head past the next id.
   only-columns :
-      (rg : List ℕ) (i v : ℕ) (after : List ℕ) → RegistryChanged d rg i v mem after → recycledOf after ≡ recycledOf mem
-      → nextOf after ≡ nextOf mem → ((j : ℕ) → recycledAt (d .places) rg j ≡ recycled d mem j) → SameIds d mem after
-  only-columns rg i v after changed count next same = record {
-    same-next = next;
+      (rg : List ℕ) (i v : ℕ) (after : List ℕ) → RegistryChanged d rg i v mem after → 6 ≤ i → recycledOf after ≡ recycledOf mem
+      → ((j : ℕ) → recycledAt (d .places) rg j ≡ recycled d mem j) → SameIds d mem after
+  only-columns rg i v after changed high count same = record {
+    same-next = changed .same-word 5 (omega arith) (omega arith);
     same-count = count;
     same-recycled = λ j. ap (λ ws. recycledAt (d .places) ws j) (changed .new-registry) ∙ same j;
   }
@@ -75,29 +75,30 @@ module _ (d : Numbers) (mem : List ℕ) (sound : SoundAt d mem) where
   pub register-ids : (id object link : ℕ) → registeredOf mem < d .places → SameIds d mem (registerStep d id object link mem)
   register-ids id object link room =
       let changed = register-step d mem sound id object link room in
-      only-columns d mem _ _ _ _ changed (changed .same-word 12 (omega arith) (omega arith)) (changed .same-word 5 (omega arith) (omega arith))
+      only-columns d mem _ _ _ _ changed (omega arith) (changed .same-word 12 (omega arith) (omega arith))
       (λ j. registered-other (d .places) n id object link rg room long .behind (4 * d .places + j) (omega arith))
 
   pub list-ids : (p : ℕ) → p < d .places → SameIds d mem (listStep d p mem)
   list-ids p inside =
       let changed = list-step d mem sound p inside in
-      only-columns d mem _ _ _ _ changed (changed .new-word) (changed .same-word 5 (omega arith) (omega arith))
+      only-columns d mem _ _ _ _ changed (omega arith) (changed .new-word)
       (λ j. list-given-other (d .places) p rg inside long (4 * d .places + j) (omega arith))
 
   pub unregister-ids : (k : ℕ) → k < registeredOf mem → SameIds d mem (unregisterStep d k mem)
   unregister-ids k inside =
       let changed = unregister-step d mem sound k inside in
-      only-columns d mem _ _ _ _ changed (changed .same-word 12 (omega arith) (omega arith)) (changed .same-word 5 (omega arith) (omega arith))
+      only-columns d mem _ _ _ _ changed (omega arith) (changed .same-word 12 (omega arith) (omega arith))
       (λ j. unregistered-before (d .places) n k rg inside (sound .registered-fit) long .behind (4 * d .places + j) (omega arith))
 
   pub collect-ids : (p : ℕ) → p < registeredOf mem → SameIds d mem (collectStep d p mem)
   collect-ids p inside =
       let changed = collect-step d mem sound p inside in
-      only-columns d mem _ _ _ _ changed (changed .same-word 12 (omega arith) (omega arith)) (changed .same-word 5 (omega arith) (omega arith))
-      (λ j. collected-before (d .places) p n rg inside (sound .registered-fit) long (sound .linked) .behind (4 * d .places + j) (omega arith))
+      only-columns d mem _ _ _ _ changed (omega arith) (changed .same-word 12 (omega arith) (omega arith))
+      (λ j.
+      collected-before (d .places) p n rg inside (sound .registered-fit) long (sound .linked) .behind (4 * d .places + j) (omega arith))
 
   pub count-ids : (i : ℕ) → 7 ≤ i → i < 11 → SameIds d mem (addStep i 1 mem)
   count-ids i low high =
       let changed = add-step d mem (sound .long-enough) i 1 (omega arith) high in
-      only-columns d mem _ _ _ _ changed (changed .same-word 12 (omega arith) (omega arith)) (changed .same-word 5 (omega arith) (omega arith))
+      only-columns d mem _ _ _ _ changed (omega arith) (changed .same-word 12 (omega arith) (omega arith))
       (λ j. refl)

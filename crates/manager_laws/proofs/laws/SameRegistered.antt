@@ -1,5 +1,5 @@
--- The registered ids with all that stands in their places, as they were: so after every lookup, after taking an id and after giving one back. Then each id has
--- its place, each place its children, and a token is as valid as before.
+-- The registered ids with all that stands in their places, as they were: so after every lookup, after taking an id and after giving one
+-- back. Then each id has its place, each place its children, and a token is as valid as before.
 use mathlib.Core.List.{List}
 use mathlib.Core.Logic.{by-cases}
 use mathlib.Core.Path.{_≡_, refl, ap, _∙_}
@@ -95,7 +95,8 @@ module _ (d : Numbers) (mem : List ℕ) (sound : SoundAt d mem) where
   lookup-same s valid token =
       let f : List ℕ → List ℕ = λ sp. counted sp token in
       let change = space-change d s f mem sound valid (lookup-keeps (d .most) _ (space-of d mem sound s valid) token) in
-      same-registry d mem _ (head-kept d (space s) f mem change refl 11 (omega arith)) (view-other d (space s) f mem change registry tt refl)
+      same-registry d mem _ (head-kept d (space s) f mem change refl 11 (omega arith))
+      (view-other d (space s) f mem change registry tt refl)
 
   pub take-same : SameRegistered d mem (takeStep d mem)
   take-same =

@@ -1,5 +1,5 @@
--- A delegated token's rights lie within both sets: whether new or held already, the target holds it with the bits that the delegator's entry
--- and the given rights have in common.
+-- A delegated token's rights lie within both sets: whether new or held already, the target holds it with the bits that the delegator's
+-- entry and the given rights have in common.
 use mathlib.Core.Bool.{true, true≢false}
 use mathlib.Core.List.{List}
 use mathlib.Core.Logic.{⊎-elim}
@@ -62,7 +62,8 @@ looked-held d s mem sound valid token rights (Entry e) is held = record {
 offered-held :
     (d : Numbers) (target p cap-type rights k m : ℕ) (mem : List ℕ) → target < d .spaces → SoundAt d mem
     → offeredFrom d target p cap-type rights k m mem .held ≡ true
-    → HeldWith d target (offeredFrom d target p cap-type rights k m mem .memory) (offeredFrom d target p cap-type rights k m mem .token) rights
+    → HeldWith d target (offeredFrom d target p cap-type rights k m mem .memory)
+    (offeredFrom d target p cap-type rights k m mem .token) rights
 unfolding offeredFrom
 offered-held d target p cap-type rights k zero mem valid sound = λ held. absurd (true≢false (sym held))
 offered-held d target p cap-type rights k (suc m) mem valid sound =

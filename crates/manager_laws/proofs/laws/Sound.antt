@@ -144,7 +144,8 @@ registered-admitted d mem s id token object link rights i reg valid fits low hig
 -- ---- create
 
 -- A created id has no parent.
-pub parentless : (d : Numbers) (mem : List ℕ) → SoundAt d mem → (id : ℕ) → registeredOf mem < d .places → InHand d mem id → Registration d mem id 0
+pub parentless :
+    (d : Numbers) (mem : List ℕ) → SoundAt d mem → (id : ℕ) → registeredOf mem < d .places → InHand d mem id → Registration d mem id 0
 parentless d mem sound id room h =
     record { sound = sound; room = room; hand = h; parent = no-parent (d .places) (registeredOf mem) (view d registry mem) }
 
@@ -157,8 +158,8 @@ module _ (d : Numbers) (mem : List ℕ) (sound : SoundAt d mem) (s : ℕ) (valid
       unless-below (λ (out : Left Reply). Kept d mem (out .memory)) _ _ (registeredOf mem) (d .places)
       (λ full. given-back d mem sound id (taken id refl))
       (λ room.
-      registered-admitted d mem s id (tokenOf id cap-type rights) object 0 rights 7 (parentless d mem sound id room (taken id refl)) valid fits
-      (omega arith) (omega arith))
+      registered-admitted d mem s id (tokenOf id cap-type rights) object 0 rights 7
+      (parentless d mem sound id room (taken id refl)) valid fits (omega arith) (omega arith))
 
 -- ---- delegate: the children that there are already
 
@@ -405,7 +406,8 @@ module _ (mem : List ℕ) (sound : Sound mem) where
       (λ far. kept-refl d mem sound)
       (λ to.
       let looked = lookup-step-kept d mem sound source from token in
-      kept-trans d mem _ _ looked (granting-kept d target to token rights fits _ (looked .sound) (lookedUp (spaceOf d source mem) token .got))))
+      kept-trans d mem _ _ looked
+      (granting-kept d target to token rights fits _ (looked .sound) (lookedUp (spaceOf d source mem) token .got))))
 
   pub delete-keeps : (token : ℕ) → Keeps mem (deleteOut mem token)
   delete-keeps token =

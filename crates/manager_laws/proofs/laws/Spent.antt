@@ -159,5 +159,6 @@ pub back-none :
 back-none d mem mid id none from sound room = record {
   next-grows = omega (arith, none .next-grows, recycle-step d mid sound id room .same-word 5 (omega arith) (omega arith));
   none-joins = λ x l again.
-      ⊎-elim (λ is. subst (Recycled d mem) (sym is) (from (omega arith))) (none .none-joins x l) (recycle-has d mid sound id room x .0 again);
+      ⊎-elim (λ is. subst (Recycled d mem) (sym is) (from (omega arith))) (none .none-joins x l)
+      (recycle-has d mid sound id room x .0 again);
 }

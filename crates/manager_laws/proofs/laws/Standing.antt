@@ -1,5 +1,5 @@
--- What stands after a create or a delegate that made a token: its id is registered, unrevoked, with its object, its parent and no list of its
--- own, and the space holds the token with its rights.
+-- What stands after a create or a delegate that made a token: its id is registered, unrevoked, with its object, its parent and no list of
+-- its own, and the space holds the token with its rights.
 use mathlib.Core.Bool.{Bool}
 use mathlib.Core.List.{List}
 use mathlib.Core.Logic.{_⊎_, inl, inr}
@@ -100,7 +100,8 @@ module _ (d : Numbers) (mem : List ℕ) (id object link : ℕ) (reg : Registrati
 
     at-place : placeIn d after id ≡ n
     at-place =
-        place-is (registeredOf after) (view d registry after) id n (add-step-kept d with-entry inserted i 1 (omega arith) high .sound .ids-differ)
+        place-is (registeredOf after) (view d registry after) id n
+        (add-step-kept d with-entry inserted i 1 (omega arith) high .sound .ids-differ)
         (omega (arith, one-more))
         (same-ids (d .places) _ _ only-holders n (reg .room) ∙ new-place .new-id)
 
@@ -150,8 +151,8 @@ created-stands mem s object valid cap-type rights fits =
     let count = take-same d mem sound .same-count in
     let token : ℕ = tokenOf (t .id) cap-type rights in
     rw (token-id (t .id) cap-type rights (hand .free .fits), ← count)
-    (admitted-stands d taken (t .id) object 0 (create.recording mem s object valid cap-type rights t room) s (t .asked .there) token rights 7
-    fits (omega arith) (omega arith) (rw (create.recorded-space mem s object valid cap-type rights t room) a)))
+    (admitted-stands d taken (t .id) object 0 (create.recording mem s object valid cap-type rights t room) s (t .asked .there) token rights
+    7 fits (omega arith) (omega arith) (rw (create.recorded-space mem s object valid cap-type rights t room) a)))
   where
     d : Numbers
     d = numbersOf mem
@@ -189,7 +190,8 @@ module _ (mem : List ℕ) (token source target rights : ℕ) where
       ⊎ NewChild (delegateOut mem token source target rights)
   delegated-stands fits =
       delegate.delegate-by-ways mem token source target rights
-      (λ (out : Left Reply). out .reply .answer ≡ Done → delegate.Returned mem token source target rights (out .reply .value) ⊎ NewChild out)
+      (λ (out : Left Reply).
+      out .reply .answer ≡ Done → delegate.Returned mem token source target rights (out .reply .value) ⊎ NewChild out)
       (λ after a some e. absurd (some (ap numberOf e)))
       (λ g held e. inl (g, (held, refl)))
       (λ g room a e. inr (g, (refl, stands g room a)))

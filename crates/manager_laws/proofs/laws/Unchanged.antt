@@ -1,5 +1,5 @@
--- What refusals leave. A refusal's value is 0 and it changes nothing, except: a lookup stays counted; a collection stays done; a delegate given 4 leaves the parent a list;
--- an id that create or delegate took goes to the recycled ones.
+-- What refusals leave. A refusal's value is 0 and it changes nothing, except: a lookup stays counted; a collection stays done; a delegate
+-- given 4 leaves the parent a list; an id that create or delegate took goes to the recycled ones.
 use mathlib.Core.Bool.{Bool}
 use mathlib.Core.List.{List}
 use mathlib.Core.Logic.{_≢_, ⊎-elim, by-cases}
@@ -84,7 +84,8 @@ module _ (mem : List ℕ) (s object : ℕ) (valid : Bool) (cap-type rights : ℕ
   -- 22: the id is recycled.
   pub create-22 :
       createOut mem s object valid cap-type rights .reply .answer ≡ RegistryFull
-      → (t : Took) × (createOut mem s object valid cap-type rights .memory ≡ recycleStep (numbersOf mem) (t .id) (takeStep (numbersOf mem) mem))
+      → (t : Took)
+      × (createOut mem s object valid cap-type rights .memory ≡ recycleStep (numbersOf mem) (t .id) (takeStep (numbersOf mem) mem))
   create-22 e =
       let (t, over) = create-told-22 mem s object valid cap-type rights .0 e in
       (t, ap (λ (out : Left Reply). out .memory) (create.goes mem s object valid cap-type rights (create.full t over)))

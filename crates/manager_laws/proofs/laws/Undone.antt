@@ -1,4 +1,5 @@
--- An id that was registered and leaves again, as its entry was refused: all stands as before it was registered, but that the id is recycled.
+-- An id that was registered and leaves again, as its entry was refused: all stands as before it was registered, but that the id is
+-- recycled.
 use mathlib.Core.List.{List}
 use mathlib.Core.Logic.{_↔_, Iff·trans, _≢_, _⊎_, inl, inr, ⊎-elim, by-cases}
 use mathlib.Core.Path.{_≡_, refl, sym, ap, subst, _∙_}
@@ -65,7 +66,9 @@ module _ (d : Numbers) (mem : List ℕ) (id object link : ℕ) (reg : Registrati
   inside : n < registeredOf with-id
   inside = omega (arith, came .new-word)
 
-  left : RegistryChanged d (unregistered (d .places) (registeredOf with-id) n (view d registry with-id)) 11 (registeredOf with-id - 1) with-id gone
+  left :
+      RegistryChanged d (unregistered (d .places) (registeredOf with-id) n (view d registry with-id)) 11 (registeredOf with-id - 1)
+      with-id gone
   left = unregister-step d with-id there n inside
 
   long : (ws : List ℕ) → SoundAt d ws → 5 * d .places + 1 ≤ length (view d registry ws)
@@ -84,7 +87,8 @@ module _ (d : Numbers) (mem : List ℕ) (id object link : ℕ) (reg : Registrati
   gone-sound = unregister-step-kept d with-id there n inside .sound
 
   gone-ids : SameIds d mem gone
-  gone-ids = ids-trans d mem with-id gone (register-ids d mem (reg .sound) id object link (reg .room)) (unregister-ids d with-id there n inside)
+  gone-ids =
+      ids-trans d mem with-id gone (register-ids d mem (reg .sound) id object link (reg .room)) (unregister-ids d with-id there n inside)
 
   gone-room : recycledOf gone ≤ d .places
   gone-room = rw (gone-ids .same-count) (reg .hand .room)

@@ -187,8 +187,8 @@ module _ (mem : List ℕ) (sound : Sound mem) where
   revokes-exactly : (s id : ℕ) → s < d .spaces → (space.revokeOut mem s id .reply .answer ≡ BadField) ↔ (2 ^ 48 ≤ id)
   unfolding space.revokeOut
   revokes-exactly s id there =
-      space-by-cases (λ (out : Left Reply). (out .reply .answer ≡ BadField) ↔ (2 ^ 48 ≤ id)) (refuse mem) mem _ (λ bad. absurd (bad sound)) s
-      (λ sound far. absurd (omega arith)) (λ sound there. go (ltb (2 ^ 48 - 1) id) refl)
+      space-by-cases (λ (out : Left Reply). (out .reply .answer ≡ BadField) ↔ (2 ^ 48 ≤ id)) (refuse mem) mem _
+      (λ bad. absurd (bad sound)) s (λ sound far. absurd (omega arith)) (λ sound there. go (ltb (2 ^ 48 - 1) id) refl)
     where
       t : ℕ
       t = packed id (generationOf (spaceOf d s mem)) 0 0
@@ -276,7 +276,8 @@ module _ (mem : List ℕ) (sound : Sound mem) where
         )
         go Good is =
             let near = good-exactly r 4 .0 is .2 in
-            let there : r .op ≡ 13 → r .space < d .spaces = λ is-13. omega (arith, four, near 0 (omega arith) (ap (λ op. reads op 0) is-13)) in (
+            let there : r .op ≡ 13 → r .space < d .spaces =
+            λ is-13. omega (arith, four, near 0 (omega arith) (ap (λ op. reads op 0) is-13)) in (
               λ e. inr (refl, called-21 there .0 e),
               ⊎-elim (λ e. absurd (omega (arith, ap goodness e))) (λ (e, over). called-21 there .1 over),
             )

@@ -69,7 +69,8 @@ module _ (mem : List ℕ) (sound : Sound mem) where
         let rights : ℕ = r .rights in
         let valid : Bool = eqb (r .valid) 1 in
         either _ _ _
-        (fine s _ (manager.create-keeps mem sound s a valid (r .«cap_type») rights fits) (create-entered mem s a valid (r .«cap_type») rights))
+        (fine s _ (manager.create-keeps mem sound s a valid (r .«cap_type») rights fits)
+        (create-entered mem s a valid (r .«cap_type») rights))
         (either _ _ _
         (sure _ (manager.delegate-keeps mem sound a s (r .second) rights fits) (delegate-told-26 mem a s (r .second) rights))
         (either _ _ _ (fine s _ (space.lookup-keeps mem sound s a) (told.lookup-told mem s a))

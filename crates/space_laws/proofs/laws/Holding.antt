@@ -215,7 +215,8 @@ module _ (mem : List ℕ) (s token : ℕ) (x : CapabilityEntry) (h : Holding mem
   pub used-after-lookup-entry : Holding (lookupEntryOut mem s token .memory) s token (used x)
   unfolding lookupEntryOut
   used-after-lookup-entry =
-      subst (λ (out : Left EntryReply). Holding (out .memory) s token (used x)) (sym (space-called _ mem _ (h .sound) s (h .valid))) used-step
+      subst (λ (out : Left EntryReply). Holding (out .memory) s token (used x))
+      (sym (space-called _ mem _ (h .sound) s (h .valid))) used-step
 
   pub used-after-check : (required : ℕ) → Holding (checkRightsOut mem s token required .memory) s token (used x)
   unfolding checkRightsOut
