@@ -1,5 +1,5 @@
--- The id registered last goes into the space where that takes its entry, and leaves the registry again where it does not: a space takes an
--- entry under its quota of an id that is not there yet (`Accepts`).
+-- The entry of the id registered last goes into the space if the space accepts it; if not, the id leaves the registry again. A space
+-- accepts an entry under its quota, of an id that is not there yet (`Accepts`).
 use mathlib.Core.List.{List}
 use mathlib.Core.Logic.{_≢_, _⊎_, inl, inr}
 use mathlib.Core.Path.{_≡_, refl, ap}

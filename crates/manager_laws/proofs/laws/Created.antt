@@ -1,4 +1,4 @@
--- Every way through create: when it is gone, and what it answers and leaves.
+-- Every way through create (`Way`): when it is taken, and what it answers and leaves.
 use mathlib.Core.Bool.{Bool, true, false, not}
 use mathlib.Core.List.{List}
 use mathlib.Core.Logic.{_≢_, ⊎-elim, by-cases}
@@ -100,7 +100,7 @@ module _ (mem : List ℕ) (s object : ℕ) (valid : Bool) (cap-type rights : ℕ
         memory = addStep 7 1 (inserted t);
       }
 
-  -- ---- there is a way
+  -- ---- one of the ways is taken
 
   took-way : (t : Took) → Way
   took-way t =
@@ -121,7 +121,7 @@ module _ (mem : List ℕ) (s object : ℕ) (valid : Bool) (cap-type rights : ℕ
       go sound there fits true on = asked-way (record { sound = sound; there = there; type-fits = fits; on = on }) (takenId d mem) refl
       go sound there fits false off = bad-object sound there fits off
 
-  -- ---- and the call goes it
+  -- ---- and the call ends as it says
 
   asked-goes : Asked → createOut mem s object valid cap-type rights ≡ created d s object cap-type rights taken (takenId d mem)
   unfolding createOut

@@ -1,4 +1,4 @@
--- Every way through delegate: when it is gone, and what it answers and leaves.
+-- Every way through delegate (`Way`): when it is taken, and what it answers and leaves.
 use mathlib.Core.Bool.{Bool, true, false, not}
 use mathlib.Core.List.{List}
 use mathlib.Core.Logic.{_≢_, ⊎-elim, by-cases}
@@ -173,7 +173,7 @@ module _ (mem : List ℕ) (token source target rights : ℕ) where
         memory = addStep 8 1 (insertedChild (g .took));
       }
 
-  -- ---- there is a way
+  -- ---- one of the ways is taken
 
   looked-sound : Entered → SoundAt d looked
   looked-sound entered = lookup-step-kept d mem (entered .sound) source (entered .from) token .sound
@@ -232,7 +232,7 @@ module _ (mem : List ℕ) (token source target rights : ℕ) where
       (λ to. entered-way (record { sound = sound; from = there; to = to }) got refl)
       (λ none. bad-target sound there (omega arith)))
 
-  -- ---- and the call goes it
+  -- ---- and the call ends as it says
 
   entered-goes : Entered → delegateOut mem token source target rights ≡ granting d target token rights looked got
   unfolding delegateOut

@@ -1,4 +1,4 @@
--- Create and delegate issue no id that is issued and not given back, so none that is registered, and what they issue is spent then. Create,
+-- Create and delegate issue no id that is issued and not given back, so none that is registered, and what they issue is spent. Create,
 -- delegate, check, and the delete of another id give none back; and the next id never falls. Ids.antt of history says it of every call.
 use mathlib.Core.Bool.{Bool}
 use mathlib.Core.List.{List}

@@ -1,4 +1,4 @@
--- The child of a good parent can be recorded: the parent is registered and unrevoked still when the id was taken, and its list has room.
+-- A child of a good parent can be recorded: once its id is taken, the parent is still registered and unrevoked, and its list has room.
 use mathlib.Core.List.{List}
 use mathlib.Core.Path.{_≡_, _∙_}
 use Prim.Native.Nat.{ℕ, suc, _<_}

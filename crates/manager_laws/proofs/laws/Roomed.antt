@@ -1,5 +1,5 @@
--- The memory in which a parent's list has room for one more child, if collecting makes it: with 1,024 children that after the collection,
--- else as it is.
+-- The memory in which a delegation counts the parent's children: after the collection where there were 1,024, else as it is. 10 is given
+-- exactly if 1,024 remain in it; else an id is taken there.
 use mathlib.Core.Bool.{not}
 use mathlib.Core.List.{List}
 use mathlib.Core.Logic.{by-cases}

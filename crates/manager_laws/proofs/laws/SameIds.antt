@@ -1,4 +1,4 @@
--- The next id and the recycled ids, as they were: so after every step but taking an id and recycling one.
+-- Every step but taking an id and recycling one leaves the next id and the recycled ids as they were.
 use mathlib.Core.List.{List}
 use mathlib.Core.Path.{_≡_, refl, ap, _∙_}
 use Prim.Native.Nat.{ℕ, _+_, _*_, _^_, _≤_, _<_}

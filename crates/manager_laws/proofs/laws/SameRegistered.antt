@@ -1,5 +1,5 @@
--- The registered ids with all that stands in their places, as they were: so after every lookup, after taking an id and after giving one
--- back. Then each id has its place, each place its children, and a token is as valid as before.
+-- A lookup, taking an id and giving one back leave the registered ids as they were, with all that stands in their places. Then each id
+-- keeps its place, each place its children, and a token is as valid as before.
 use mathlib.Core.List.{List}
 use mathlib.Core.Logic.{by-cases}
 use mathlib.Core.Path.{_≡_, refl, ap, _∙_}

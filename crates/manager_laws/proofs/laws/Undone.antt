@@ -1,5 +1,4 @@
--- An id that was registered and leaves again, as its entry was refused: all stands as before it was registered, but that the id is
--- recycled.
+-- An id that leaves the registry again, since its entry was refused: all is as it was before it was registered, but the id is recycled.
 use mathlib.Core.List.{List}
 use mathlib.Core.Logic.{_↔_, Iff·trans, _≢_, _⊎_, inl, inr, ⊎-elim, by-cases}
 use mathlib.Core.Path.{_≡_, refl, sym, ap, subst, _∙_}

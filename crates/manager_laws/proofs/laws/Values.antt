@@ -1,4 +1,4 @@
--- A refusal's value is 0, of the manager's calls that only read, and the list of children leaves the lent area as it was. Unchanged.antt
+-- The manager's calls that only read: a refusal's value is 0, and a refused list of children leaves the lent area as it was. Unchanged.antt
 -- says it of the others.
 use mathlib.Core.Bool.{not}
 use mathlib.Core.List.{List}

@@ -1,4 +1,4 @@
--- The ways through a call: what holds of each of its endings holds of the call.
+-- The ways through delete and check: what holds of each ending holds of the call. Created.antt and Delegated.antt have the other two calls.
 use mathlib.Core.Bool.{Bool, true, false, not}
 use mathlib.Core.List.{List}
 use mathlib.Core.Path.{_≡_, sym, _∙_}

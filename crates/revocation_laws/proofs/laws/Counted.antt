@@ -1,4 +1,4 @@
--- A counted lookup changes nothing that a revocation reads: this answers as it would have answered before the lookup.
+-- A counted lookup changes nothing that a revocation reads: the revocation answers as it would have before the lookup.
 use mathlib.Core.Bool.{Bool, true, false}
 use mathlib.Core.List.{List}
 use mathlib.Core.Path.{_≡_, refl, ap, ap₂, _∙_}

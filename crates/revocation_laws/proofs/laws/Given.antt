@@ -1,4 +1,5 @@
--- The calls that revoke, given 0: what holds of the memory that a revocation given 0 leaves holds of the memory that the call leaves.
+-- What holds of the memory that a revocation given 0 leaves holds of what each call that revokes leaves, given 0: `revoke`,
+-- `revoke_capability`, a held revoke.
 use mathlib.Core.Bool.{not}
 use mathlib.Core.List.{List}
 use mathlib.Core.Logic.{_≢_}

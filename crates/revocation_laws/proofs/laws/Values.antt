@@ -1,4 +1,4 @@
--- A refusal's value is 0, of the calls that only read and list nothing. Unchanged.antt says it of the others.
+-- The calls of revocation that only read and list nothing: a refusal's value is 0. Unchanged.antt says it of the others.
 use mathlib.Core.List.{List}
 use mathlib.Core.Logic.{_≢_}
 use mathlib.Core.Path.{_≡_, refl}

@@ -1,5 +1,5 @@
 -- After a call on space s, every other space, the log, every queue and the head are as they were, and of the registry only holders differ;
--- a call that takes an id changes recycled ids and the next id besides. So on every memory, whatever the answer.
+-- a call that takes an id changes recycled ids and the next id besides. This holds on every memory, whatever the answer.
 use mathlib.Core.Bool.{Bool, true, false, not}
 use mathlib.Core.List.{List}
 use mathlib.Core.Path.{_≡_, refl}
