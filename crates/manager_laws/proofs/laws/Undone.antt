@@ -1,4 +1,5 @@
--- An id that leaves the registry again, since its entry was refused: all is as it was before it was registered, but the id is recycled.
+-- An id that leaves the registry again, since its entry was refused: every registered place, space and queue, the log and the head are as
+-- they were before it was registered, and the id is recycled. Of the place that it leaves, which is free again, nothing is said.
 use mathlib.Core.List.{List}
 use mathlib.Core.Logic.{_↔_, Iff·trans, _≢_, _⊎_, inl, inr, ⊎-elim, by-cases}
 use mathlib.Core.Path.{_≡_, refl, sym, ap, subst, _∙_}
