@@ -22,7 +22,7 @@ use Rattle.world.specs.Sound.{Sound}
 use Rattle.world.specs.declared.Numbers.{Numbers}
 use Rattle.notification_calls.specs.Calls.{notifyOut, noticesFor, peekOut, drainOut}
 use Rattle.revocation_calls.specs.Calls.{listedIn, descendants, descendantsOut, reasonOut}
-use Rattle.revocation_laws.proofs.laws.NoticeWays.{NoPlace, HasPlace, TooShort, LongEnough, notify-by-cases, peek-by-cases, drain-by-cases}
+use Rattle.revocation_laws.proofs.laws.NoticeWays.{NoPlace, HasPlace, TooShort, LongEnough, notify-by-cases, peek-by-cases, drain-peeks}
 
 -- ---- lists
 
@@ -111,10 +111,7 @@ module _ (mem : List ℕ) (sound : Sound mem) where
     pub drain-told-21 :
         (drainOut mem pid area .reply .reply .answer ≡ BadField)
         ↔ (length area < length (noticesFor (numbersOf mem) mem (queueFor (numbersOf mem) mem pid)))
-    drain-told-21 =
-        drain-by-cases mem pid area (λ (out : Left Listed). (out .reply .reply .answer ≡ BadField) ↔ TooShort mem pid area) unsound
-        (λ sound short. given refl short)
-        (λ sound fits. not-given Done BadField (λ e. omega arith) (λ short. omega arith))
+    drain-told-21 = rw (drain-peeks mem pid area) peek-told-21
 
   module _ (pid id reason time : ℕ) where
     abbrev Exactly : Answer → Type 0 → Left Reply → Type 0
@@ -186,8 +183,4 @@ module _ (mem : List ℕ) where
         (λ sound fits. given refl (sound, fits))
 
     pub drain-told-0 : (drainOut mem pid area .reply .reply .answer ≡ Done) ↔ (Sound mem × LongEnough mem pid area)
-    drain-told-0 =
-        drain-by-cases mem pid area (λ (out : Left Listed). (out .reply .reply .answer ≡ Done) ↔ Fits)
-        (λ bad. not-given BadWorld Done (λ e. omega arith) (λ (sound, fits). bad sound))
-        (λ sound short. not-given BadField Done (λ e. omega arith) (λ (sound, fits). omega arith))
-        (λ sound fits. given refl (sound, fits))
+    drain-told-0 = rw (drain-peeks mem pid area) peek-told-0

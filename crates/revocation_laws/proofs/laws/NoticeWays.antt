@@ -1,4 +1,4 @@
--- The ways through the calls for notifications: what holds of each ending holds of the whole.
+-- The ways through the calls for notifications: what holds of each ending holds of the whole. And a drain answers what a peek answers.
 use mathlib.Core.Bool.{Bool, true, false, not}
 use mathlib.Core.List.{List}
 use mathlib.Core.Logic.{_⊎_, inl, inr, ⊎-elim}
@@ -8,8 +8,9 @@ use borrow.Author.Tests.{ltb-true, ltb-false, leb-true, leb-false, not-true}
 use lib.Dec.{leb, ltb}
 use lib.ListN.{length}
 use Rattle.answers.specs.declared.Answer.the-variants.{BadField, PidTableFull, BadWorld}
-use Rattle.base.specs.Choose.{both, both-left, both-right}
+use Rattle.base.specs.Choose.{both, both-left, both-right, when}
 use Rattle.revocation_steps.specs.Revocation.{queueFor, freeQueue, notifyStep}
+use Rattle.steps.specs.Enter.{onWorld}
 use Rattle.steps.specs.Replies.{Left, Listed, done, refusal, refuse}
 use Rattle.steps.specs.declared.Reply.{Reply}
 use Rattle.steps.proofs.laws.Cases.{when-by-cases}
@@ -69,6 +70,14 @@ module _ (mem : List ℕ) (pid id reason time : ℕ) (P : Left Reply → Type 0)
 
 -- ---- the notices of a pid
 
+replies :
+    {A : Type 0} (a b : Bool) (x y rest : Left A)
+    → when a x (when b y rest) .reply ≡ when a (x .reply) (when b (y .reply) (rest .reply))
+unfolding when
+replies true b x y rest = refl
+replies false true x y rest = refl
+replies false false x y rest = refl
+
 -- The area is too short for them.
 abbrev pub TooShort : List ℕ → ℕ → List ℕ → Type 0
 TooShort mem pid area = length area < length (noticesFor (numbersOf mem) mem (queueFor (numbersOf mem) mem pid))
@@ -104,3 +113,7 @@ module _ (mem : List ℕ) (pid : ℕ) (area : List ℕ) where
   drain-by-cases P bad short goes =
       world-by-cases P _ mem _ bad
       (λ sound. when-by-cases P _ _ (ltb (length area) words) (λ e. short sound (ltb-true _ _ e)) (λ e. goes sound (ltb-false _ _ e)))
+
+  pub drain-peeks : drainOut mem pid area .reply ≡ peekOut mem pid area
+  unfolding drainOut peekOut onWorld
+  drain-peeks = replies _ _ _ _ _

@@ -40,7 +40,7 @@ use Rattle.revocation_calls.specs.Revoking.{revoking}
 use Rattle.revocation_calls.proofs.laws.RevokingWays.{revoking-by-cases}
 use Rattle.revocation_laws.proofs.laws.Counted.{same-registered, same-registry, same-queues}
 use Rattle.revocation_laws.proofs.laws.Given.{revoke-given, revoke-capability-given, held-given, held-done}
-use Rattle.revocation_laws.proofs.laws.NoticeWays.{notify-by-cases, peek-by-cases, drain-by-cases}
+use Rattle.revocation_laws.proofs.laws.NoticeWays.{notify-by-cases, peek-by-cases, drain-by-cases, drain-peeks}
 use Rattle.revocation_laws.proofs.laws.Unregistered.{revoke-capability-unregistered, held-unregistered}
 
 -- ---- a notice for a pid
@@ -178,10 +178,7 @@ module _ (mem : List ℕ) (pid : ℕ) where
 
   pub drain-lists :
       (area : List ℕ) → drainOut mem pid area .reply .reply .answer ≡ Done → Listing mem pid area (drainOut mem pid area .reply)
-  drain-lists area =
-      drain-by-cases mem pid area (λ (out : Left Listed). out .reply .reply .answer ≡ Done → Listing mem pid area (out .reply))
-      (λ bad e. absurd (omega (arith, ap numberOf e))) (λ sound short e. absurd (omega (arith, ap numberOf e)))
-      (λ sound fits e. record { words = refl; count = listed-count mem pid })
+  drain-lists area = rw (drain-peeks mem pid area) (peek-lists area)
 
   pub drain-notices :
       (area : List ℕ) → drainOut mem pid area .reply .reply .answer ≡ Done → OnlyFor mem pid [] (drainOut mem pid area .memory)

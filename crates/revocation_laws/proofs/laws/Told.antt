@@ -34,6 +34,7 @@ use Rattle.notification_calls.specs.declared.QueuesReply.{QueuesReply}
 use Rattle.revocation_calls.specs.Calls.{revokeOut, revokeCapabilityOut, revokeHeldOut, revokeBatchOut, isRevokedOut, epochOut, listedIn, descendants, descendantsOut}
 use Rattle.revocation_calls.specs.Revoking.{revokingHeld}
 use Rattle.revocation_laws.proofs.laws.Ways.{Own, own-not, revoking-own, revoking-token-own, each-done}
+use Rattle.revocation_laws.proofs.laws.NoticeWays.{drain-peeks}
 
 -- ---- no answer of a call's own is either
 
@@ -137,11 +138,7 @@ module _ (mem : List ℕ) where
       (λ fits. inner-0))
 
   pub drain-entered : (pid : ℕ) (area : List ℕ) → (drainOut mem pid area .reply .reply .answer ≡ BadWorld) ↔ (¬ Sound mem)
-  unfolding drainOut
-  drain-entered pid area =
-      world-told (λ (out : Left Listed). out .reply .reply .answer) _ mem _ (λ a. refl)
-      (when-by-cases (λ (out : Left Listed). FineList (out .reply)) _ _
-      (ltb (length area) (length (noticesFor d mem (queueFor d mem pid)))) (λ short. inner BadField refl refl) (λ fits. inner-0))
+  drain-entered pid area = rw (drain-peeks mem pid area) (peek-entered pid area)
 
   pub notification-count-entered : (pid : ℕ) → (notificationCountOut mem pid .answer ≡ BadWorld) ↔ (¬ Sound mem)
   unfolding notificationCountOut

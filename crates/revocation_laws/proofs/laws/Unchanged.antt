@@ -31,7 +31,7 @@ use Rattle.revocation_calls.specs.Calls.{revokeOut, revokeCapabilityOut, revoke
 use Rattle.revocation_calls.specs.Revoking.{revoking, revokingToken, revokingHeld}
 use Rattle.revocation_calls.proofs.laws.RevokingWays.{revoking-by-cases, listing-by-cases, revoking-token-by-cases}
 use Rattle.revocation_laws.proofs.laws.Counted.{same-registered, same-registry}
-use Rattle.revocation_laws.proofs.laws.NoticeWays.{notify-by-cases, peek-by-cases, drain-by-cases}
+use Rattle.revocation_laws.proofs.laws.NoticeWays.{notify-by-cases, peek-by-cases, drain-by-cases, drain-peeks}
 use Rattle.revocation_laws.proofs.laws.Ways.{each-done, revoke-by-cases, revoke-capability-by-cases, held-by-cases, batch-by-cases, withVisits, revoke-registered, revoke-capability-called, held-with-revoke}
 
 -- Any answer but 0 leaves the memory as it was, with the value 0,
@@ -233,9 +233,8 @@ module _ (mem : List ℕ) where
       (pid : ℕ) (area : List ℕ)
       → (drainOut mem pid area .reply .reply .answer ≢ Done → drainOut mem pid area .memory ≡ mem)
       × UnchangedArea area (drainOut mem pid area .reply)
-  drain-unchanged pid area =
-      drain-by-cases mem pid area
-      (λ (out : Left Listed). (out .reply .reply .answer ≢ Done → out .memory ≡ mem) × UnchangedArea area (out .reply))
-      (λ bad. (λ not-0. refl, refused-list area BadWorld))
-      (λ sound short. (λ not-0. refl, refused-list area BadField))
-      (λ sound fits. (λ not-0. absurd (not-0 refl), listed-0 area _ refl))
+  drain-unchanged pid area = (
+    drain-by-cases mem pid area (λ (out : Left Listed). out .reply .reply .answer ≢ Done → out .memory ≡ mem) (λ bad not-0. refl)
+        (λ sound short not-0. refl) (λ sound fits not-0. absurd (not-0 refl)),
+    rw (drain-peeks mem pid area) (peek-unchanged pid area),
+  )
