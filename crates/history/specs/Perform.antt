@@ -2,6 +2,7 @@
 use mathlib.Core.List.{List, [], _∷_}
 use Prim.Native.Nat.{ℕ}
 use Rattle.answers.specs.declared.Answer.{Answer}
+use Rattle.delegation_calls.specs.Delegation.{delegateOut}
 use Rattle.manager_calls.specs.Calls as manager
 use Rattle.manager_calls.specs.declared.StatsReply.{StatsReply}
 use Rattle.manager_calls.specs.declared.TreeReply.{TreeReply}
@@ -66,7 +67,7 @@ accept (space-insert s token object rights fits) mem = space.insertCallOut mem s
 accept (space-copy target source) mem = space.copyOut mem target source
 accept (space-create s rights object fits) mem = space.createOut mem s rights object
 accept (create s object valid cap-type rights fits) mem = manager.createOut mem s object valid cap-type rights
-accept (delegate token source target rights fits) mem = manager.delegateOut mem token source target rights
+accept (delegate token source target rights fits) mem = delegateOut mem token source target rights
 
 -- An answer and a memory with the answer as one of all kinds.
 abbrev pub told : {A : Type 0} → (A → Answered) → Left A → Left Answered

@@ -5,7 +5,8 @@ use mathlib.Core.List.{List, [], _∷_}
 use mathlib.Core.Path.{_≡_}
 use Prim.Native.Nat.{ℕ, suc, _+_, _^_, _≤_, _<_}
 use Rattle.base.specs.Below.{sum, one}
-use Rattle.manager_calls.specs.Delegation.{tokenOf, heldWith, openChild, offered, current}
+use Rattle.delegation_calls.specs.Delegation.{heldWith, openChild, offered}
+use Rattle.manager_calls.specs.Tokens.{tokenOf, current}
 use Rattle.space.specs.Lookup.{lookedUp, searchId}
 use Rattle.space.specs.Words.{generationOf, quotaOf, tableOf, slotWords}
 use Rattle.steps.specs.Steps.{spaceOf, lookupStep, takenId, takeStep, placeIn, objects, registerStep, listStep, collectStep, childrenOf}

@@ -1,11 +1,13 @@
 // The calls of the manager for a host: the memory is a slice of words that the host lends, a token its word, a set of rights its 32 bits.
-// Each is the call of the same name in `manager_calls`, with its answer as a number.
+// Each is the call of the same name in `manager_calls` or `delegation_calls`, with its answer as a number.
 ghost use mathlib.Core.Path.{_≡_};
-ghost use Rattle.manager_calls.specs.Calls.{createOut, delegateOut, deleteOut, checkOut, isValidOut, statsOut, childrenOut, treeStatsOut, censusOut};
+ghost use Rattle.delegation_calls.specs.Delegation.{delegateOut};
+ghost use Rattle.manager_calls.specs.Calls.{createOut, deleteOut, checkOut, isValidOut, statsOut, childrenOut, treeStatsOut, censusOut};
 ghost use Rattle.host.specs.Manager.{managerAnswer, treeAnswer};
 ghost use Rattle.host.specs.Replies.{callAnswer, told, listedAnswer};
 use super::replies::CallAnswer;
 use super::replies::answered;
+use delegation_calls::delegate;
 use manager_calls::StatsReply;
 use manager_calls::TreeReply;
 use token::CapabilityToken;
@@ -85,7 +87,7 @@ pub extern "C" fn stonespry_delegate(
         ≡ told callAnswer (delegateOut (now (mem .entry)) token source target rights)
         ⌝ }
 {
-    answered(manager_calls::delegate(mem, CapabilityToken(token), source, target, Rights(rights)))
+    answered(delegate(mem, CapabilityToken(token), source, target, Rights(rights)))
 }
 
 #[no_mangle]

@@ -18,7 +18,7 @@ use Rattle.steps.specs.Steps.{spaceOf, newEntry, insertStep, registerStep, unre
 use Rattle.steps.specs.declared.Reply.{Reply}
 use Rattle.world.specs.Numbers.{registeredOf, recycledOf}
 use Rattle.world.specs.declared.Numbers.{Numbers}
-use Rattle.manager_calls.specs.Delegation.{admitted}
+use Rattle.manager_calls.specs.Admit.{admitted}
 
 -- ---- room to recycle
 

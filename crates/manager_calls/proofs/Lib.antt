@@ -1,4 +1,3 @@
--- What the proofs of `manager_calls` share.
+-- What the proofs of `manager_calls` share, and those of `delegation_calls`.
 pub mod Validity
 pub mod Admitting
-pub mod Offering

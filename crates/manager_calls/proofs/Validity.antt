@@ -9,7 +9,7 @@ use Rattle.token.specs.Token.{idOf}
 use Rattle.world.specs.Numbers.{registeredOf}
 use Rattle.world.specs.declared.Numbers.{Numbers}
 use Rattle.manager_calls.specs.Calls.{validIn}
-use Rattle.manager_calls.specs.Delegation.{current}
+use Rattle.manager_calls.specs.Tokens.{current}
 
 module _ (d : Numbers) (mem : List ℕ) (token id k : ℕ) (is-id : id ≡ idOf token) (place : k ≡ placeIn d mem id) where
   at : k ≡ placeIn d mem (idOf token)

@@ -1,12 +1,12 @@
--- The calls of the manager: what each answers and leaves, on every memory and every argument. Document 01's order of refusals: 26, 20, 21,
--- then the source's.
+-- The calls of the manager but delegate: what each answers and leaves, on every memory and every argument. Document 01's order of
+-- refusals: 26, 20, 21, then the source's.
 use mathlib.Core.Bool.{Bool, false, not}
 use mathlib.Core.List.{List}
-use Prim.Native.Nat.{ℕ, _-_, _^_}
+use Prim.Native.Nat.{ℕ, _^_}
 use lib.Dec.{leb, ltb}
 use lib.ListN.{length, getD}
 use Rattle.answers.specs.declared.Answer.{Answer}
-use Rattle.answers.specs.declared.Answer.the-variants.{Done, InsufficientRights, CapabilityRevoked, InvalidObject, NotFound, BadSpace, BadField, RecycleFull}
+use Rattle.answers.specs.declared.Answer.the-variants.{Done, InsufficientRights, CapabilityRevoked, InvalidObject, NotFound, IdExhausted, BadField, RegistryFull, RecycleFull}
 use Rattle.base.specs.Below.{one}
 use Rattle.base.specs.Choose.{both, when}
 use Rattle.base.specs.Written.{written}
@@ -15,20 +15,30 @@ use Rattle.space.specs.Ids.{entryIds}
 use Rattle.space.specs.Lookup.{lookedUp}
 use Rattle.steps.specs.Enter.{onWorld, onSpace}
 use Rattle.steps.specs.Replies.{Left, Listed, replied, done, refusal, refuse}
-use Rattle.steps.specs.Steps.{spaceOf, lookupStep, takenId, takeStep, placeIn, unregisterStep, recycleStep, childrenOf, addStep}
+use Rattle.steps.specs.Steps.{spaceOf, lookupStep, takenId, takeStep, placeIn, registerStep, unregisterStep, recycleStep, childrenOf, addStep}
 use Rattle.steps.specs.declared.Reply.{Reply}
+use Rattle.steps.specs.declared.Taken.{Taken}
+use Rattle.steps.specs.declared.Taken.the-variants.{Id, Exhausted}
 use Rattle.table.specs.declared.Got.{Got}
 use Rattle.table.specs.declared.Got.the-variants.{Entry, Nothing}
 use Rattle.token.specs.Rights.{holds}
 use Rattle.token.specs.Token.{idOf}
-use Rattle.world.specs.Numbers.{registeredOf, recycledOf, deletedWord}
+use Rattle.world.specs.Numbers.{registeredOf, recycledOf, createdWord, deletedWord}
 use Rattle.world.specs.Regions.{registry, view}
 use Rattle.world.specs.declared.Numbers.{Numbers}
-use Rattle.manager_calls.specs.Delegation.{created, current, granting}
+use Rattle.manager_calls.specs.Admit.{admitted}
+use Rattle.manager_calls.specs.Tokens.{tokenOf, current}
 use Rattle.manager_calls.specs.declared.StatsReply.{StatsReply}
 use Rattle.manager_calls.specs.declared.TreeReply.{TreeReply}
 
--- ---- create and delegate
+-- ---- create
+
+-- Once an id was asked for: 9 where none is left, 22 where R ids are registered already.
+abbrev pub created : Numbers → ℕ → ℕ → ℕ → ℕ → List ℕ → Taken → Left Reply
+created d s object cap-type rights mem Exhausted = refuse mem IdExhausted
+created d s object cap-type rights mem (Id id) =
+    when (not (ltb (registeredOf mem) (d .places))) (refuse (recycleStep d id mem) RegistryFull)
+    (admitted d s id (tokenOf id cap-type rights) object rights createdWord (registerStep d id object 0 mem))
 
 -- A type over 15 gives 21, an object whose valid flag is off 5; then an id is taken.
 unfoldable pub createOut : List ℕ → ℕ → ℕ → Bool → ℕ → ℕ → Left Reply
@@ -36,13 +46,6 @@ createOut mem s object valid cap-type rights =
     onSpace (refuse mem) mem s (λ d.
     when (ltb 15 cap-type) (refuse mem BadField)
     (when (not valid) (refuse mem InvalidObject) (created d s object cap-type rights (takeStep d mem) (takenId d mem))))
-
--- Exact lookup in the source space, which is counted; what follows is in Delegation.antt.
-unfoldable pub delegateOut : List ℕ → ℕ → ℕ → ℕ → ℕ → Left Reply
-delegateOut mem token source target rights =
-    onSpace (refuse mem) mem source (λ d.
-    when (not (ltb target (d .spaces))) (refuse mem BadSpace)
-    (granting d target token rights (lookupStep d source token mem) (lookedUp (spaceOf d source mem) token .got)))
 
 -- ---- delete
 

@@ -1,4 +1,4 @@
 -- What the contracts of `manager_calls` cite.
-pub mod Delegation
-pub mod Offer
+pub mod Tokens
+pub mod Admit
 pub mod Calls

@@ -5,7 +5,7 @@ ghost use Rattle.world.specs.Numbers.{registeredOf, recycledOf};
 ghost use Rattle.steps.specs.Ready.{Ready};
 ghost use Rattle.steps.specs.Replies.{refuse};
 ghost use Rattle.steps.specs.Steps.{unregisterStep, recycleStep};
-ghost use Rattle.manager_calls.specs.Delegation.{tokenOf, admitted};
+ghost use Rattle.manager_calls.specs.Admit.{admitted};
 use answers::Answer;
 use steps::Reply;
 use steps::registered::add;
@@ -17,19 +17,6 @@ use table::CapabilityEntry;
 use token::CapabilityToken;
 use token::Rights;
 use world::Numbers;
-
-// The token of an unrevoked id.
-pub fn token_of(id: u64, cap_type: u8, rights: Rights) -> CapabilityToken
-    requires { ⌜ «cap_type» ≤ 15 ⌝ }
-    ensures { λ r. ⌜ r .0 ≡ tokenOf id «cap_type» (rights .0) ⌝ }
-{
-    let flags = rights.to_flags();
-    CapabilityToken(
-        id % 0x1_0000_0000_0000
-            + (cap_type as u64) * 0x100_0000_0000_0000
-            + (flags as u64) * 0x1000_0000_0000_0000,
-    )
-}
 
 // An id that was taken goes to the recycled set.
 pub fn give_back(mem: &mut [u64], d: Numbers, id: u64, answer: Answer) -> Reply

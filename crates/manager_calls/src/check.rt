@@ -3,7 +3,7 @@ ghost use mathlib.Core.Path.{_≡_};
 ghost use Rattle.steps.specs.Ready.{Ready};
 ghost use Rattle.manager_calls.specs.Calls.{validIn, checkOut, isValidOut};
 ghost use Rattle.manager_calls.specs.Calls as spec;
-use super::derive::is_current;
+use super::tokens::is_current;
 use answers::Answer;
 use space::LookedUp;
 use steps::Entered;

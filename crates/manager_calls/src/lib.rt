@@ -1,20 +1,18 @@
-// The calls of the manager: every public function of manager.rs but `revoke`, and of revocation.rs those that read the derivation tree, on
-// the world's memory; and the census of a space. No call asks anything of its arguments or of the memory: each looks first, and refuses by
-// document 01's table.
-mod admit;
+// The calls of the manager: every public function of manager.rs but `revoke` and `delegate`, and of revocation.rs those that read the
+// derivation tree, on the world's memory; and the census of a space. No call asks anything of its arguments or of the memory: each looks
+// first, and refuses by document 01's table. `admit` and `tokens` are no calls: they are what create and check have in common with
+// `delegation_calls`.
+pub mod admit;
 mod check;
 mod creation;
-mod delegation;
 mod deletion;
-mod derive;
-mod offer;
 mod read;
+pub mod tokens;
 
 use answers::Answer;
 pub use check::check_capability;
 pub use check::is_valid;
 pub use creation::create_capability;
-pub use delegation::delegate;
 pub use deletion::delete;
 pub use read::census;
 pub use read::derivation_tree_stats;

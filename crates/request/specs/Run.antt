@@ -10,6 +10,7 @@ use Rattle.answers.specs.declared.Answer.{Answer}
 use Rattle.answers.specs.declared.Answer.the-variants.{BadField}
 use Rattle.base.specs.Choose.{pick, when}
 use Rattle.base.specs.Written.{written}
+use Rattle.delegation_calls.specs.Delegation.{delegateOut}
 use Rattle.manager_calls.specs.Calls as manager
 use Rattle.notification_calls.specs.Calls as notification
 use Rattle.revocation_calls.specs.Calls as revocation
@@ -48,7 +49,7 @@ drained pid mem =
 unfoldable pub called1To5 : Request → List ℕ → Left Reply
 called1To5 r mem =
     when (eqb (r .op) 1) (manager.createOut mem (r .space) (r .a) (eqb (r .valid) 1) (r .«cap_type») (r .rights))
-    (when (eqb (r .op) 2) (manager.delegateOut mem (r .a) (r .space) (r .second) (r .rights))
+    (when (eqb (r .op) 2) (delegateOut mem (r .a) (r .space) (r .second) (r .rights))
     (when (eqb (r .op) 3) (space.lookupOut mem (r .space) (r .a))
     (when (eqb (r .op) 4) (manager.checkOut mem (r .a) (r .rights) (r .space)) (space.removeOut mem (r .space) (r .a)))))
 

@@ -43,7 +43,7 @@ fn call_1_to_5(r: Request, mem: &mut [u64]) -> Reply
         );
     }
     if r.op == 2 {
-        return manager_calls::delegate(mem, token, s, r.second as usize, rights);
+        return delegation_calls::delegate(mem, token, s, r.second as usize, rights);
     }
     if r.op == 3 {
         return space_calls::lookup(mem, s, token);

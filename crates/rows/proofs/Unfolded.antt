@@ -4,8 +4,9 @@ use Rattle.base.specs.Below.{all, first, firstFrom, sum}
 use Rattle.base.specs.Choose.{when}
 use Rattle.base.specs.Distinct.{isNew, differTest}
 use Rattle.base.specs.Written.{written}
-use Rattle.manager_calls.specs.Calls.{createOut, delegateOut, checkOut}
-use Rattle.manager_calls.specs.Delegation.{admitted, offeredFrom, withId, withRoom}
+use Rattle.delegation_calls.specs.Delegation.{offeredFrom, withId, withRoom, delegateOut}
+use Rattle.manager_calls.specs.Admit.{admitted}
+use Rattle.manager_calls.specs.Calls.{createOut, checkOut}
 use Rattle.notification_calls.specs.Calls.{drainOut}
 use Rattle.registry.specs.Children.{childPlacesFrom, childPlaces, idsAt}
 use Rattle.registry.specs.Descent.{descendedFrom, descent, unrevokedOf, marked}

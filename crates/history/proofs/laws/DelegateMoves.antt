@@ -10,7 +10,7 @@ use borrow.Author.Tests.{ne-eqb}
 use lib.Bits.{and-le-r}
 use lib.Dec.{eqb}
 use Rattle.base.specs.Below.{one}
-use Rattle.manager_calls.specs.Calls.{delegateOut}
+use Rattle.delegation_calls.specs.Delegation.{delegateOut}
 use Rattle.manager_laws.proofs.laws.Delegated as delegate
 use Rattle.manager_laws.proofs.laws.Recording.{listed, recording}
 use Rattle.manager_laws.proofs.laws.Roomed.{parentIn, roomed, roomed-by-cases}

@@ -18,7 +18,7 @@ use Rattle.table.specs.declared.CapabilityEntry.{CapabilityEntry}
 use Rattle.table.specs.declared.Found.the-variants.{At, Absent}
 use Rattle.world.specs.Numbers.{registeredOf}
 use Rattle.world.specs.declared.Numbers.{Numbers}
-use Rattle.manager_calls.specs.Delegation.{admitted}
+use Rattle.manager_calls.specs.Admit.{admitted}
 
 -- ---- whether the space takes the entry
 

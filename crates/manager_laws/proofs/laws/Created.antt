@@ -27,8 +27,9 @@ use Rattle.table.specs.declared.CapabilityEntry.{CapabilityEntry}
 use Rattle.world.specs.Numbers.{numbersOf, registeredOf}
 use Rattle.world.specs.Sound.{Sound}
 use Rattle.world.specs.declared.Numbers.{Numbers}
-use Rattle.manager_calls.specs.Calls.{createOut}
-use Rattle.manager_calls.specs.Delegation.{tokenOf, admitted, created}
+use Rattle.manager_calls.specs.Admit.{admitted}
+use Rattle.manager_calls.specs.Calls.{created, createOut}
+use Rattle.manager_calls.specs.Tokens.{tokenOf}
 use Rattle.manager_laws.proofs.laws.Admitted.{accepts-or-not, admitted-taken, admitted-undone}
 use Rattle.manager_laws.proofs.laws.SameRegistered.{take-same}
 use Rattle.manager_laws.proofs.laws.Sound.{Registration, taken-in-hand, parentless}

@@ -25,8 +25,8 @@ use Rattle.manager_laws.proofs.laws.Roomed.{parentIn}
 use Rattle.world.specs.Numbers.{numbersOf, registeredOf}
 use Rattle.world.specs.Sound.{Sound}
 use Rattle.world.specs.declared.Numbers.{Numbers}
-use Rattle.manager_calls.specs.Calls.{delegateOut}
-use Rattle.manager_calls.specs.Delegation.{current}
+use Rattle.delegation_calls.specs.Delegation.{delegateOut}
+use Rattle.manager_calls.specs.Tokens.{current}
 use Rattle.manager_laws.proofs.laws.Delegated as delegate
 
 abbrev answerOf : Left Reply → Answer

@@ -33,8 +33,9 @@ use Rattle.token.specs.Token.{idOf, typeOf}
 use Rattle.world.specs.Numbers.{numbersOf, registeredOf}
 use Rattle.world.specs.Sound.{SoundAt, Sound}
 use Rattle.world.specs.declared.Numbers.{Numbers}
-use Rattle.manager_calls.specs.Calls.{delegateOut}
-use Rattle.manager_calls.specs.Delegation.{tokenOf, admitted, Offered, offered, current, derived, withId, withRoom, offering, granting}
+use Rattle.delegation_calls.specs.Delegation.{Offered, offered, derived, withId, withRoom, offering, granting, delegateOut}
+use Rattle.manager_calls.specs.Admit.{admitted}
+use Rattle.manager_calls.specs.Tokens.{tokenOf, current}
 use Rattle.manager_laws.proofs.laws.Admitted.{accepts-or-not, admitted-taken, admitted-undone}
 use Rattle.manager_laws.proofs.laws.Roomed.{parentIn, roomed, roomed-kept, crowded-goes, roomed-goes}
 use Rattle.manager_laws.proofs.laws.SameRegistered.{SameRegistered, take-same, same-place, same-current}

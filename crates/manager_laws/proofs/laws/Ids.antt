@@ -23,8 +23,9 @@ use Rattle.world.specs.Numbers.{numbersOf, nextOf, registeredOf, recycledOf}
 use Rattle.world.specs.Regions.{registry, view}
 use Rattle.world.specs.Sound.{SoundAt, Sound}
 use Rattle.world.specs.declared.Numbers.{Numbers}
-use Rattle.manager_calls.specs.Calls.{createOut, delegateOut, deleteOut, checkOut}
-use Rattle.manager_calls.specs.Delegation.{tokenOf}
+use Rattle.delegation_calls.specs.Delegation.{delegateOut}
+use Rattle.manager_calls.specs.Calls.{createOut, deleteOut, checkOut}
+use Rattle.manager_calls.specs.Tokens.{tokenOf}
 use Rattle.manager_laws.proofs.laws.Ways.{deleted, delete-by-cases, check-by-cases}
 use Rattle.manager_laws.proofs.laws.Created as create
 use Rattle.manager_laws.proofs.laws.Delegated as delegate

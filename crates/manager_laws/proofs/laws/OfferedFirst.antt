@@ -34,8 +34,8 @@ use Rattle.token.specs.Token.{idOf, typeOf}
 use Rattle.world.specs.Numbers.{numbersOf, registeredOf}
 use Rattle.world.specs.Sound.{ids, states, links, SoundAt}
 use Rattle.world.specs.declared.Numbers.{Numbers}
-use Rattle.manager_calls.specs.Calls.{delegateOut}
-use Rattle.manager_calls.specs.Delegation.{tokenOf, heldWith, openChild, Offered, offeredFrom, offered}
+use Rattle.delegation_calls.specs.Delegation.{heldWith, openChild, Offered, offeredFrom, offered, delegateOut}
+use Rattle.manager_calls.specs.Tokens.{tokenOf}
 use Rattle.manager_laws.proofs.laws.Delegated as delegate
 use Rattle.manager_laws.proofs.laws.SameRegistered.{SameRegistered, registered-trans, same-registry, lookup-same}
 use Rattle.manager_laws.proofs.laws.SharedRights.{HeldWith}

@@ -18,7 +18,7 @@ use Rattle.steps.proofs.laws.RegistrySteps.{collect-step-kept}
 use Rattle.token.specs.Token.{idOf}
 use Rattle.world.specs.Sound.{SoundAt}
 use Rattle.world.specs.declared.Numbers.{Numbers}
-use Rattle.manager_calls.specs.Delegation.{withId, withRoom}
+use Rattle.delegation_calls.specs.Delegation.{withId, withRoom}
 use Rattle.manager_laws.proofs.laws.Sound.{parent-registered, collected-place}
 
 abbrev pub parentIn : Numbers → ℕ → List ℕ → ℕ

@@ -30,7 +30,7 @@ use Rattle.world.specs.Sound.{ids, states, links, SoundAt}
 use Rattle.world.specs.Views.{view-other, head-kept, registry-words}
 use Rattle.world.specs.declared.Numbers.{Numbers}
 use Rattle.manager_calls.specs.Calls.{validIn}
-use Rattle.manager_calls.specs.Delegation.{current}
+use Rattle.manager_calls.specs.Tokens.{current}
 
 pub record SameRegistered (d : Numbers) (mem after : List ℕ) : Type 0 where
   pub same-count : registeredOf after ≡ registeredOf mem

@@ -26,8 +26,8 @@ use Rattle.token.specs.Token.{typeOf}
 use Rattle.world.specs.Numbers.{numbersOf, registeredOf}
 use Rattle.world.specs.Sound.{ids, SoundAt}
 use Rattle.world.specs.declared.Numbers.{Numbers}
-use Rattle.manager_calls.specs.Calls.{delegateOut}
-use Rattle.manager_calls.specs.Delegation.{tokenOf, heldWith, openChild, Offered, offeredFrom}
+use Rattle.delegation_calls.specs.Delegation.{heldWith, openChild, Offered, offeredFrom, delegateOut}
+use Rattle.manager_calls.specs.Tokens.{tokenOf}
 use Rattle.manager_laws.proofs.laws.Delegated as delegate
 use Rattle.manager_laws.proofs.laws.Roomed.{parentIn}
 use Rattle.manager_laws.proofs.laws.Standing.{delegated-stands}

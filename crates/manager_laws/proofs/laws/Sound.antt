@@ -43,8 +43,10 @@ use Rattle.world.specs.Regions.{registry, view}
 use Rattle.world.specs.Sound.{ids, states, links, SoundAt, Sound}
 use Rattle.world.specs.Views.{registry-words}
 use Rattle.world.specs.declared.Numbers.{Numbers}
-use Rattle.manager_calls.specs.Calls.{createOut, delegateOut, deleteOut, checkOut}
-use Rattle.manager_calls.specs.Delegation.{admitted, created, openChild, heldWith, Offered, offeredFrom, offered, current, derivedWith, derived, withId, withRoom, offering, granting, tokenOf}
+use Rattle.delegation_calls.specs.Delegation.{openChild, heldWith, Offered, offeredFrom, offered, derivedWith, derived, withId, withRoom, offering, granting, delegateOut}
+use Rattle.manager_calls.specs.Admit.{admitted}
+use Rattle.manager_calls.specs.Calls.{created, createOut, deleteOut, checkOut}
+use Rattle.manager_calls.specs.Tokens.{current, tokenOf}
 use Rattle.manager_laws.proofs.laws.Ways.{delete-by-cases, check-by-cases}
 use Rattle.manager_laws.proofs.laws.SameIds.{list-ids}
 use Rattle.manager_laws.proofs.laws.SameRegistered.{take-same, same-place, same-children}

@@ -34,8 +34,9 @@ use Rattle.world.specs.Sound.{states, links, SoundAt}
 use Rattle.world.specs.Views.{registry-words}
 use Rattle.world.specs.declared.Numbers.{Numbers}
 use Rattle.manager_laws.proofs.laws.Admitted.{accepted-done}
-use Rattle.manager_calls.specs.Calls.{createOut, delegateOut}
-use Rattle.manager_calls.specs.Delegation.{tokenOf}
+use Rattle.delegation_calls.specs.Delegation.{delegateOut}
+use Rattle.manager_calls.specs.Calls.{createOut}
+use Rattle.manager_calls.specs.Tokens.{tokenOf}
 use Rattle.manager_laws.proofs.laws.Created as create
 use Rattle.manager_laws.proofs.laws.Delegated as delegate
 use Rattle.manager_laws.proofs.laws.Recording.{listed-count, recording}

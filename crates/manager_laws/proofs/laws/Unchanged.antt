@@ -20,7 +20,8 @@ use Rattle.table.specs.declared.Got.the-variants.{Nothing}
 use Rattle.world.specs.Numbers.{numbersOf, registeredOf}
 use Rattle.world.specs.Sound.{Sound}
 use Rattle.world.specs.declared.Numbers.{Numbers}
-use Rattle.manager_calls.specs.Calls.{createOut, delegateOut, deleteOut, checkOut}
+use Rattle.delegation_calls.specs.Delegation.{delegateOut}
+use Rattle.manager_calls.specs.Calls.{createOut, deleteOut, checkOut}
 use Rattle.manager_laws.proofs.laws.Created as create
 use Rattle.manager_laws.proofs.laws.CreateTold.{create-told-22, create-told-4}
 use Rattle.manager_laws.proofs.laws.Delegated as delegate

@@ -14,6 +14,7 @@ use Rattle.answers.specs.Number.{numberOf}
 use Rattle.answers.specs.declared.Answer.{Answer}
 use Rattle.answers.specs.declared.Answer.the-variants.{Done, InsufficientRights, CapabilityRevoked, AlreadyExists, NotFound, SpaceQuota, SpaceIds, BadSpace, BadField, RecycleFull, BadWorld}
 use Rattle.base.specs.Choose.{pick, when}
+use Rattle.delegation_calls.specs.Delegation.{delegateOut}
 use Rattle.manager_laws.proofs.laws.CreateTold.{create-told-21}
 use Rattle.manager_laws.proofs.laws.Delegated as delegate
 use Rattle.manager_laws.proofs.laws.Ways.{delete-by-cases, check-by-cases}
@@ -87,7 +88,7 @@ module _ (mem : List ℕ) (sound : Sound mem) where
       space-by-cases Never (refuse mem) mem call (λ bad. other BadWorld (λ e. omega arith)) s
       (λ sound far. other BadSpace (λ e. omega arith)) (λ sound there. own)
 
-  delegates : (token source target rights : ℕ) → Never (manager.delegateOut mem token source target rights)
+  delegates : (token source target rights : ℕ) → Never (delegateOut mem token source target rights)
   delegates token source target rights =
       let w = delegate.way mem token source target rights in
       subst Never (sym (delegate.goes mem token source target rights w)) (go w)

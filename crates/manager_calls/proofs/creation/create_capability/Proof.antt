@@ -6,8 +6,7 @@ use Rattle.base.specs.Choose.{when-yes, when-no}
 use Rattle.steps.proofs.Entering.{space-refusal, space-call, space-ready}
 use Rattle.steps.proofs.Leaving.{left-is}
 use Rattle.steps.proofs.laws.ReadyKept.{ready-take, take-room}
-use Rattle.manager_calls.specs.Calls.{createOut}
-use Rattle.manager_calls.specs.Delegation.{created}
+use Rattle.manager_calls.specs.Calls.{created, createOut}
 use Rattle.manager_calls.proofs.creation.create_capability.Statement.{statement}
 use Rattle.manager_calls.proofs.creation.create_capability.Tie as tie
 

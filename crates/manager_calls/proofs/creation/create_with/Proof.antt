@@ -5,7 +5,7 @@ use mathlib.Core.Bool.{not}
 use mathlib.Core.Path.{sym, ap, ap₂, _∙_}
 use native.Mathlib.Omega.{arith}
 use Rattle.base.specs.Choose.{when-yes, when-no}
-use Rattle.manager_calls.specs.Delegation.{admitted}
+use Rattle.manager_calls.specs.Admit.{admitted}
 use Rattle.manager_calls.proofs.Admitting.{room-registered}
 use Rattle.manager_calls.proofs.creation.create_with.Statement.{statement}
 use Rattle.manager_calls.proofs.creation.create_with.Tie as tie

@@ -6,6 +6,7 @@ use Prim.Native.Nat.{ℕ}
 use borrow.Author.Needs.{needs}
 use borrow.Author.Tests.{eq-eqb, ne-eqb}
 use lib.Dec.{eqb}
+use Rattle.delegation_calls.specs.Delegation.{delegateOut}
 use Rattle.manager_calls.specs.Calls as manager
 use Rattle.space_calls.specs.Calls as space
 use Rattle.base.specs.Choose.{when}
@@ -22,7 +23,7 @@ module _ (r : Request) (mem : List ℕ) (out : Left Reply) where
   creates op is = rw (eq-eqb (r .op) 1 op) is
 
   module _ (not-1 : r .op ≢ 1) where
-    delegates : r .op ≡ 2 → out ≡ manager.delegateOut mem (r .a) (r .space) (r .second) (r .rights) → out ≡ called1To5 r mem
+    delegates : r .op ≡ 2 → out ≡ delegateOut mem (r .a) (r .space) (r .second) (r .rights) → out ≡ called1To5 r mem
     unfolding called1To5 when
     delegates op is = rw (ne-eqb (r .op) 1 not-1, eq-eqb (r .op) 2 op) is
 

@@ -1,0 +1,2 @@
+-- What the proofs of `delegation_calls` share.
+pub mod Offering
