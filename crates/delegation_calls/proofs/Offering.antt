@@ -8,6 +8,7 @@ use Rattle.base.specs.Choose.{pick}
 use Rattle.manager_calls.specs.Tokens.{tokenOf}
 use Rattle.space.specs.Lookup.{lookedUp}
 use Rattle.space.specs.declared.LookedUp.{LookedUp}
+use Rattle.steps.proofs.laws.Cases.{pick-by-cases}
 use Rattle.steps.proofs.laws.ReadyKept.{ready-lookup}
 use Rattle.steps.specs.Ready.{Ready}
 use Rattle.steps.specs.Replies.{done}
@@ -157,26 +158,29 @@ module _ (d : Numbers) (target p cap-type rights : ℕ) where
       pub passed : seen ≡ Absent → from (k + 1) (n - (k + 1)) (from k 1 mem .memory) ≡ answer
       passed e = sym (turn ∙ ap (λ b. pick b here later) (offer-absent here (sym is ∙ e)))
 
-  -- ---- the lookups keep what the steps ask of the memory
+  -- ---- all places: lookups are done and nothing else, and it ends with no child or with one that is held
 
-  module _ (valid : target < d .spaces) where
-    pub ready-offered : (m k : ℕ) (mem : List ℕ) → Ready d mem → Ready d (from k m mem .memory)
-    unfolding offeredFrom
-    ready-offered zero k mem ready = ready
-    ready-offered (suc m) k mem ready =
-        go (openChild d mem p k) (held-there mem k) (ready-offered m (k + 1) after ready-after) (ready-offered m (k + 1) mem ready)
-      where
-        after : List ℕ
-        after = lookupStep d target (childToken mem k) mem
+  pub offered-ends :
+      (P : List ℕ → Type 0) (Q : Offered → Type 0)
+      → ((mem : List ℕ) (token : ℕ) → P mem → P (lookupStep d target token mem))
+      → ((mem : List ℕ) → P mem → Q (record { held = false; token = 0; memory = mem }))
+      → ((mem : List ℕ) (token : ℕ) → P mem → heldWith rights (lookedUp (spaceOf d target mem) token .got) ≡ true
+      → Q (record { held = true; token = token; memory = lookupStep d target token mem }))
+      → (k m : ℕ) (mem : List ℕ) → P mem → Q (offeredFrom d target p cap-type rights k m mem)
+  unfolding offeredFrom
+  offered-ends P Q step none one k zero mem h = none mem h
+  offered-ends P Q step none one k (suc m) mem h =
+      let token : ℕ = childToken mem k in
+      let later : (after : List ℕ) → P after → Q (from (k + 1) m after) = offered-ends P Q step none one (k + 1) m in
+      pick-by-cases Q _ _ (openChild d mem p k)
+      (λ opened. pick-by-cases Q _ _ (held-there mem k) (one mem token h) (λ other. later _ (step mem token h)))
+      (λ shut. later mem h)
 
-        ready-after : Ready d after
-        ready-after = ready-lookup d mem ready target valid (childToken mem k)
+  -- So what each lookup keeps is kept.
+  pub offered-by-lookups :
+      (P : List ℕ → Type 0) → ((mem : List ℕ) (token : ℕ) → P mem → P (lookupStep d target token mem)) → (k m : ℕ) (mem : List ℕ) → P mem
+      → P (offeredFrom d target p cap-type rights k m mem .memory)
+  offered-by-lookups P step = offered-ends P (λ (o : Offered). P (o .memory)) step (λ mem h. h) (λ mem token h held. step mem token h)
 
-        go : (opened held : Bool) → Ready d (from (k + 1) m after .memory) → Ready d (from (k + 1) m mem .memory)
-            → Ready d
-            (pick opened
-            (pick held (record { held = true; token = childToken mem k; memory = after }) (from (k + 1) m after))
-            (from (k + 1) m mem) .memory)
-        go true true passed shut = ready-after
-        go true false passed shut = passed
-        go false held passed shut = shut
+  pub ready-offered : target < d .spaces → (k m : ℕ) (mem : List ℕ) → Ready d mem → Ready d (from k m mem .memory)
+  ready-offered valid = offered-by-lookups (Ready d) (λ mem token ready. ready-lookup d mem ready target valid token)

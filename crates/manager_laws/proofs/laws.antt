@@ -2,12 +2,13 @@
 pub mod SameRegistered
 pub mod SameIds
 pub mod Ways
-pub mod Sound
+pub mod StepsKept
 pub mod Admitted
 pub mod Created
 pub mod Roomed
 pub mod Delegated
 pub mod Recording
+pub mod Sound
 pub mod CreateTold
 pub mod DelegateTold
 pub mod Refused

@@ -10,7 +10,7 @@ use Rattle.base.specs.Below.{one}
 use Rattle.manager_calls.specs.Calls.{createOut}
 use Rattle.manager_laws.proofs.laws.Admitted.{accepted-done}
 use Rattle.manager_laws.proofs.laws.Created as create
-use Rattle.manager_laws.proofs.laws.Sound.{registered-kept}
+use Rattle.manager_laws.proofs.laws.StepsKept.{registered-kept}
 use Rattle.manager_laws.proofs.laws.Unchanged.{create-undone}
 use Rattle.space.specs.Change.{insertOut}
 use Rattle.space.proofs.laws.Insert.{Accepts}

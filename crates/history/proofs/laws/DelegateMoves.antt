@@ -10,11 +10,12 @@ use borrow.Author.Tests.{ne-eqb}
 use lib.Bits.{and-le-r}
 use lib.Dec.{eqb}
 use Rattle.base.specs.Below.{one}
+use Rattle.delegation_calls.proofs.Offering.{offered-by-lookups}
 use Rattle.delegation_calls.specs.Delegation.{delegateOut}
 use Rattle.manager_laws.proofs.laws.Delegated as delegate
 use Rattle.manager_laws.proofs.laws.Recording.{listed, recording}
 use Rattle.manager_laws.proofs.laws.Roomed.{parentIn, roomed, roomed-by-cases}
-use Rattle.manager_laws.proofs.laws.Sound.{parent-registered, offered-by-lookups, registered-kept}
+use Rattle.manager_laws.proofs.laws.StepsKept.{parent-registered, registered-kept}
 use Rattle.manager_laws.proofs.laws.Unchanged.{delegate-undone}
 use Rattle.space.proofs.laws.Insert.{Accepts}
 use Rattle.steps.specs.Replies.{Left}

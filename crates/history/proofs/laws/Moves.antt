@@ -7,7 +7,7 @@ use Prim.Native.Nat.{ℕ, _+_, _*_, _≤_, _<_}
 use native.Mathlib.Omega.{arith}
 use lib.ListN.{length}
 use Rattle.manager_calls.specs.Calls.{deleteOut, checkOut}
-use Rattle.manager_laws.proofs.laws.Sound.{deleted-kept}
+use Rattle.manager_laws.proofs.laws.StepsKept.{deleted-kept}
 use Rattle.manager_laws.proofs.laws.Ways.{delete-by-cases, check-by-cases}
 use Rattle.revocation_laws.proofs.laws.Steady as revocation
 use Rattle.revocation_laws.proofs.laws.Steady.{Steady}

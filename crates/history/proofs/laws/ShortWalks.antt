@@ -32,7 +32,7 @@ use Rattle.table.specs.declared.CapTable.{CapTable}
 use Rattle.table.specs.declared.CapabilityEntry.{CapabilityEntry}
 use Rattle.token.specs.Token.{typeOf, idOf as tokenId}
 use Rattle.manager_laws.proofs.laws.SameRegistered.{take-same, same-place, same-children}
-use Rattle.manager_laws.proofs.laws.Sound.{registered-kept, taken-in-hand, parentless, offered-kept, parent-registered, collected-place, child-registration}
+use Rattle.manager_laws.proofs.laws.StepsKept.{registered-kept, taken-in-hand, parentless, offered-kept, parent-registered, collected-place, child-registration}
 use Rattle.world.specs.Numbers.{registeredOf}
 use Rattle.world.specs.Sound.{states, SoundAt}
 use Rattle.world.specs.declared.Numbers.{Numbers}

@@ -32,7 +32,7 @@ use Rattle.manager_calls.specs.Calls.{created, createOut}
 use Rattle.manager_calls.specs.Tokens.{tokenOf}
 use Rattle.manager_laws.proofs.laws.Admitted.{accepts-or-not, admitted-taken, admitted-undone}
 use Rattle.manager_laws.proofs.laws.SameRegistered.{take-same}
-use Rattle.manager_laws.proofs.laws.Sound.{Registration, taken-in-hand, parentless}
+use Rattle.manager_laws.proofs.laws.StepsKept.{Registration, taken-in-hand, parentless}
 
 module _ (mem : List ℕ) (s object : ℕ) (valid : Bool) (cap-type rights : ℕ) where
   abbrev d : Numbers

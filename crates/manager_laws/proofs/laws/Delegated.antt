@@ -21,6 +21,7 @@ use Rattle.steps.specs.declared.Reply.{Reply}
 use Rattle.steps.specs.declared.Taken.{Taken}
 use Rattle.steps.specs.declared.Taken.the-variants.{Id, Exhausted}
 use Rattle.steps.proofs.laws.Entered.{space-by-cases, space-bad, space-none, space-called}
+use Rattle.steps.proofs.laws.Kept.{Kept, kept-trans}
 use Rattle.steps.proofs.laws.OnlyIds.{take-step}
 use Rattle.steps.proofs.laws.RegistrySteps.{register-step, list-step, list-step-kept}
 use Rattle.steps.proofs.laws.SpaceSteps.{lookup-step-kept}
@@ -39,7 +40,7 @@ use Rattle.manager_calls.specs.Tokens.{tokenOf, current}
 use Rattle.manager_laws.proofs.laws.Admitted.{accepts-or-not, admitted-taken, admitted-undone}
 use Rattle.manager_laws.proofs.laws.Roomed.{parentIn, roomed, roomed-kept, crowded-goes, roomed-goes}
 use Rattle.manager_laws.proofs.laws.SameRegistered.{SameRegistered, take-same, same-place, same-current}
-use Rattle.manager_laws.proofs.laws.Sound.{offered-kept}
+use Rattle.manager_laws.proofs.laws.StepsKept.{offered-kept}
 
 module _ (mem : List ℕ) (token source target rights : ℕ) where
   abbrev d : Numbers
@@ -176,16 +177,23 @@ module _ (mem : List ℕ) (token source target rights : ℕ) where
 
   -- ---- one of the ways is taken
 
-  looked-sound : Entered → SoundAt d looked
-  looked-sound entered = lookup-step-kept d mem (entered .sound) source (entered .from) token .sound
+  pub looked-kept : Entered → Kept (numbersOf mem) mem looked
+  looked-kept entered = lookup-step-kept d mem (entered .sound) source (entered .from) token
+
+  pub offer-kept : (g : Granted) → Kept (numbersOf mem) mem (offer g .memory)
+  offer-kept g =
+      let before = looked-kept (g .entered) in
+      kept-trans d mem _ _ before
+      (offered-kept d target (parentIn d token looked) (typeOf token) (shared g) 0 (registeredOf looked) looked (g .entered .to) (before .sound))
+
+  pub base-kept : (g : Granted) → Kept (numbersOf mem) mem (base g)
+  base-kept g = let before = offer-kept g in kept-trans d mem _ _ before (roomed-kept d token (offer g .memory) (before .sound))
 
   pub offer-sound : (g : Granted) → SoundAt (numbersOf mem) (offer g .memory)
-  offer-sound g =
-      offered-kept d target (parentIn d token looked) (typeOf token) (shared g) 0 (registeredOf looked) looked (g .entered .to)
-      (looked-sound (g .entered)) .sound
+  offer-sound g = offer-kept g .sound
 
   pub base-sound : (g : Granted) → SoundAt (numbersOf mem) (base g)
-  base-sound g = roomed-kept d token (offer g .memory) (offer-sound g) .sound
+  base-sound g = base-kept g .sound
 
   good-way : (g : Good) → Way
   good-way g =
@@ -317,9 +325,11 @@ module _ (mem : List ℕ) (token source target rights : ℕ) where
             admitted d target (t .id) (tokenOf (t .id) (typeOf token) sh) object sh 8
             (registerStep d (t .id) object (suc p) (listStep d p taken))
 
-        room-goes :
+        pub room-goes :
             registeredOf (from t) < numbersOf mem .places
-            → delegateOut mem token source target rights ≡ childAt (parent t) (objects d r (parent t))
+            → delegateOut mem token source target rights
+            ≡ admitted (numbersOf mem) target (t .id) (childEntry t .capability .0) (objects (numbersOf mem) (from t) (parent t))
+            (shared (t .asked .granted)) 8 (recorded t)
         room-goes room =
             took-goes t ∙ when-no _ _ _ (ap not inside-still) ∙ when-no _ _ _ (ap not (as-current ∙ good))
             ∙ when-no _ _ _ (ap not (lt-ltb (registeredOf taken) (d .places) (rw (same .same-count) room)))

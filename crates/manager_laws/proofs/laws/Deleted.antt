@@ -29,7 +29,7 @@ use Rattle.world.specs.declared.Numbers.{Numbers}
 use Rattle.manager_calls.specs.Calls.{deleteOut}
 use Rattle.manager_laws.proofs.laws.SameIds.{unregister-ids}
 use Rattle.manager_laws.proofs.laws.SameRegistered.{SameRegistered, registered-trans, same-registry, recycle-same, same-place}
-use Rattle.manager_laws.proofs.laws.Sound.{deleted-kept}
+use Rattle.manager_laws.proofs.laws.StepsKept.{deleted-kept}
 use Rattle.manager_laws.proofs.laws.Ways.{deleted, delete-by-cases}
 
 abbrev pub Registered : Numbers → List ℕ → ℕ → Type 0

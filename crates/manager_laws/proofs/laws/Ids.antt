@@ -24,6 +24,7 @@ use Rattle.world.specs.Regions.{registry, view}
 use Rattle.world.specs.Sound.{SoundAt, Sound}
 use Rattle.world.specs.declared.Numbers.{Numbers}
 use Rattle.delegation_calls.specs.Delegation.{delegateOut}
+use Rattle.delegation_calls.proofs.Offering.{offered-by-lookups}
 use Rattle.manager_calls.specs.Calls.{createOut, deleteOut, checkOut}
 use Rattle.manager_calls.specs.Tokens.{tokenOf}
 use Rattle.manager_laws.proofs.laws.Ways.{deleted, delete-by-cases, check-by-cases}
@@ -35,8 +36,9 @@ use Rattle.manager_laws.proofs.laws.Undone.{Undone}
 use Rattle.manager_laws.proofs.laws.Unchanged.{create-undone, delegate-undone}
 use Rattle.manager_laws.proofs.laws.Roomed.{roomed, roomed-by-cases}
 use Rattle.manager_laws.proofs.laws.SameIds.{SameIds, lookup-ids, list-ids, unregister-ids, collect-ids, count-ids}
-use Rattle.manager_laws.proofs.laws.Sound.{taken-in-hand, offered-by-lookups, parent-registered, deleted-kept, create-keeps, delegate-keeps, delete-keeps, check-keeps, token-id}
+use Rattle.manager_laws.proofs.laws.Sound.{create-keeps, delegate-keeps, delete-keeps, check-keeps}
 use Rattle.manager_laws.proofs.laws.Spent.{Recycled, SpentAt, Spent, NoneFreed, spent-still, none-refl, none-trans, none-same, take-none, taken-from, taken-unspent, registered-spent, recycle-spent, back-none}
+use Rattle.manager_laws.proofs.laws.StepsKept.{taken-in-hand, parent-registered, deleted-kept, token-id}
 
 -- ---- create
 

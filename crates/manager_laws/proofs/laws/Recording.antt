@@ -16,7 +16,7 @@ use Rattle.world.specs.declared.Numbers.{Numbers}
 use Rattle.manager_laws.proofs.laws.Delegated.{Took, Good, from, parent, offer-sound, base-sound}
 use Rattle.manager_laws.proofs.laws.Roomed.{roomed-place}
 use Rattle.manager_laws.proofs.laws.SameRegistered.{SameRegistered, take-same, same-children}
-use Rattle.manager_laws.proofs.laws.Sound.{Registration, taken-in-hand, child-registration}
+use Rattle.manager_laws.proofs.laws.StepsKept.{Registration, taken-in-hand, child-registration}
 
 module _ (mem : List ℕ) (token source target rights : ℕ) (g : Good mem token source target rights) where
   abbrev d : Numbers

@@ -19,7 +19,7 @@ use Rattle.token.specs.Token.{idOf}
 use Rattle.world.specs.Sound.{SoundAt}
 use Rattle.world.specs.declared.Numbers.{Numbers}
 use Rattle.delegation_calls.specs.Delegation.{withId, withRoom}
-use Rattle.manager_laws.proofs.laws.Sound.{parent-registered, collected-place}
+use Rattle.manager_laws.proofs.laws.StepsKept.{parent-registered, collected-place}
 
 abbrev pub parentIn : Numbers → ℕ → List ℕ → ℕ
 parentIn d token mem = placeIn d mem (idOf token)

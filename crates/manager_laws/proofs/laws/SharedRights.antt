@@ -4,7 +4,7 @@ use mathlib.Core.Bool.{true, true≢false}
 use mathlib.Core.List.{List}
 use mathlib.Core.Logic.{⊎-elim}
 use mathlib.Core.Path.{_≡_, refl, sym, ap, subst, _∙_}
-use Prim.Native.Nat.{ℕ, zero, suc, _+_, _^_, _<_}
+use Prim.Native.Nat.{ℕ, _^_, _<_}
 use native.Mathlib.Omega.{arith}
 use borrow.Author.Tests.{eqb-true}
 use Rattle.answers.specs.declared.Answer.the-variants.{Done}
@@ -13,7 +13,6 @@ use Rattle.space.proofs.laws.Counted.{used, found-again}
 use Rattle.steps.specs.Replies.{Left}
 use Rattle.steps.specs.Steps.{spaceOf, lookupStep}
 use Rattle.steps.specs.declared.Reply.{Reply}
-use Rattle.steps.proofs.laws.Cases.{pick-by-cases}
 use Rattle.steps.proofs.laws.OnlySpace.{lookup-step}
 use Rattle.steps.proofs.laws.Ready.{space-of}
 use Rattle.steps.proofs.laws.SpaceSteps.{lookup-step-kept}
@@ -24,10 +23,10 @@ use Rattle.token.specs.Rights.{holds, common}
 use Rattle.token.specs.RightsLaws.{contains-is-subset, intersection-is-what-both-have}
 use Rattle.token.specs.Token.{typeOf}
 use Rattle.world.specs.Numbers.{numbersOf, registeredOf}
-use Rattle.world.specs.Sound.{ids, SoundAt}
+use Rattle.world.specs.Sound.{SoundAt}
 use Rattle.world.specs.declared.Numbers.{Numbers}
-use Rattle.delegation_calls.specs.Delegation.{heldWith, openChild, Offered, offeredFrom, delegateOut}
-use Rattle.manager_calls.specs.Tokens.{tokenOf}
+use Rattle.delegation_calls.specs.Delegation.{heldWith, Offered, offeredFrom, delegateOut}
+use Rattle.delegation_calls.proofs.Offering.{offered-ends}
 use Rattle.manager_laws.proofs.laws.Delegated as delegate
 use Rattle.manager_laws.proofs.laws.Roomed.{parentIn}
 use Rattle.manager_laws.proofs.laws.Standing.{delegated-stands}
@@ -62,20 +61,14 @@ looked-held d s mem sound valid token rights (Entry e) is held = record {
 offered-held :
     (d : Numbers) (target p cap-type rights k m : ℕ) (mem : List ℕ) → target < d .spaces → SoundAt d mem
     → offeredFrom d target p cap-type rights k m mem .held ≡ true
-    → HeldWith d target (offeredFrom d target p cap-type rights k m mem .memory)
-    (offeredFrom d target p cap-type rights k m mem .token) rights
-unfolding offeredFrom
-offered-held d target p cap-type rights k zero mem valid sound = λ held. absurd (true≢false (sym held))
-offered-held d target p cap-type rights k (suc m) mem valid sound =
-    let token : ℕ = tokenOf (ids d mem k) cap-type rights in
-    let looked = lookup-step-kept d mem sound target valid token in
-    let Holds : Offered → Type 0 = λ (o : Offered). o .held ≡ true → HeldWith d target (o .memory) (o .token) rights in
-    pick-by-cases Holds _ _ (openChild d mem p k)
-    (λ child.
-    pick-by-cases Holds _ _ (heldWith rights (lookedUp (spaceOf d target mem) token .got))
-    (λ is held. looked-held d target mem sound valid token rights _ refl is)
-    (λ other. offered-held d target p cap-type rights (k + 1) m _ valid (looked .sound)))
-    (λ none′. offered-held d target p cap-type rights (k + 1) m mem valid sound)
+    → HeldWith d target (offeredFrom d target p cap-type rights k m mem .memory) (offeredFrom d target p cap-type rights k m mem .token) rights
+offered-held d target p cap-type rights k m mem valid sound =
+    offered-ends d target p cap-type rights (SoundAt d)
+    (λ (o : Offered). o .held ≡ true → HeldWith d target (o .memory) (o .token) rights)
+    (λ mem token sound. lookup-step-kept d mem sound target valid token .sound)
+    (λ mem sound held. absurd (true≢false (sym held)))
+    (λ mem token sound is held. looked-held d target mem sound valid token rights _ refl is)
+    k m mem sound
 
 -- The source holds the token with GRANT, and the target the answered one with the bits that those rights and the given ones share.
 pub delegate-shares :

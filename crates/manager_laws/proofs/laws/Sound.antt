@@ -1,155 +1,35 @@
 -- Every call keeps a sound memory sound, with its numbers, its length and every word past the regions (`Kept`), whatever it answers.
 use mathlib.Core.Bool.{Bool, not}
 use mathlib.Core.List.{List}
-use mathlib.Core.Logic.{by-cases}
-use mathlib.Core.Path.{_≡_, refl, sym, ap, subst, _∙_}
-use Prim.Native.Nat.{ℕ, zero, suc, _+_, _-_, _*_, _^_, _≤_, _<_}
-use native.Mathlib.Decide.{decLt}
+use mathlib.Core.Path.{_≡_, refl, sym, subst}
+use Prim.Native.Nat.{ℕ, suc, _^_, _<_}
 use native.Mathlib.Omega.{arith}
-use borrow.Author.Tests.{ltb-true, ltb-false, eqb-true, ne-eqb, not-false}
 use lib.Bits.{and-le-r}
-use lib.Dec.{eqb, ltb}
-use lib.ListN.{length}
-use Rattle.answers.specs.Number.{numberOf}
-use Rattle.base.specs.Below.{one}
-use Rattle.base.specs.Choose.{both-left}
-use Rattle.base.specs.SumLaws.{sum-const-zero}
-use Rattle.registry.specs.CollectionLaws.{collected-parent}
-use Rattle.registry.specs.HoldersLaws.{same-ids, place-holds, place-is}
-use Rattle.registry.specs.RegisteringLaws.{Parent, no-parent, registered-new, list-given-other, list-given-state}
-use Rattle.registry.specs.Rules.{children-same}
-use Rattle.registry.specs.Words.{idAt, revoked, childOf, children}
-use Rattle.space.specs.Change.{insertOut}
-use Rattle.space.specs.Lookup.{lookedUp}
+use lib.Dec.{ltb}
 use Rattle.steps.specs.Replies.{Left}
-use Rattle.steps.specs.Steps.{spaceOf, lookupStep, newEntry, insertStep, takenId, takeStep, placeIn, objects, registerStep, listStep, unregisterStep, recycleStep, collectStep, childrenOf}
+use Rattle.steps.specs.Steps.{lookupStep, takenId, takeStep, objects}
 use Rattle.steps.specs.declared.Reply.{Reply}
 use Rattle.steps.specs.declared.Taken.{Taken}
 use Rattle.steps.specs.declared.Taken.the-variants.{Id, Exhausted}
-use Rattle.steps.proofs.laws.Cases.{pick-by-cases, when-by-cases, unless-below}
 use Rattle.steps.proofs.laws.Called.{Keeps, on-space}
+use Rattle.steps.proofs.laws.Cases.{when-by-cases, unless-below}
 use Rattle.steps.proofs.laws.Kept.{Kept, kept-refl, kept-trans}
-use Rattle.steps.proofs.laws.OnlySpace.{OnlySpace, insert-step}
-use Rattle.steps.proofs.laws.RegistrySteps.{register-step, register-step-kept, list-step, list-step-kept, recycle-step-kept, collect-step, collect-step-kept, add-step-kept, recycle-after-unregister}
-use Rattle.steps.proofs.laws.SpaceSteps.{lookup-step-kept, insert-step-kept}
-use Rattle.steps.proofs.laws.TakeStep.{Free, take-step-kept, taken-free, taken-room}
-use Rattle.table.specs.declared.CapabilityEntry.{CapabilityEntry}
-use Rattle.table.specs.declared.Got.{Got}
-use Rattle.table.specs.declared.Got.the-variants.{Entry, Nothing}
-use Rattle.token.specs.Rights.{holds, common}
-use Rattle.token.specs.Token.{idOf, typeOf}
-use Rattle.world.specs.Numbers.{numbersOf, registeredOf, recycledOf}
-use Rattle.world.specs.Regions.{registry, view}
-use Rattle.world.specs.Sound.{ids, states, links, SoundAt, Sound}
-use Rattle.world.specs.Views.{registry-words}
+use Rattle.steps.proofs.laws.RegistrySteps.{list-step-kept, add-step-kept}
+use Rattle.steps.proofs.laws.SpaceSteps.{lookup-step-kept}
+use Rattle.steps.proofs.laws.TakeStep.{take-step-kept}
+use Rattle.token.specs.Token.{idOf}
+use Rattle.world.specs.Numbers.{numbersOf, registeredOf}
+use Rattle.world.specs.Sound.{SoundAt, Sound}
 use Rattle.world.specs.declared.Numbers.{Numbers}
-use Rattle.delegation_calls.specs.Delegation.{openChild, heldWith, Offered, offeredFrom, offered, derivedWith, derived, withId, withRoom, offering, granting, delegateOut}
-use Rattle.manager_calls.specs.Admit.{admitted}
+use Rattle.delegation_calls.specs.Delegation.{delegateOut}
 use Rattle.manager_calls.specs.Calls.{created, createOut, deleteOut, checkOut}
-use Rattle.manager_calls.specs.Tokens.{current, tokenOf}
+use Rattle.manager_calls.specs.Tokens.{tokenOf}
+use Rattle.manager_laws.proofs.laws.Delegated as delegate
+use Rattle.manager_laws.proofs.laws.Recording.{recording}
+use Rattle.manager_laws.proofs.laws.StepsKept.{InHand, taken-in-hand, given-back, registered-admitted, parentless, deleted-kept}
 use Rattle.manager_laws.proofs.laws.Ways.{delete-by-cases, check-by-cases}
-use Rattle.manager_laws.proofs.laws.SameIds.{list-ids}
-use Rattle.manager_laws.proofs.laws.SameRegistered.{take-same, same-place, same-children}
 
--- An id that was taken: it is free, and there is room to give it back.
-pub record InHand (d : Numbers) (mem : List ℕ) (id : ℕ) : Type 0 where
-  pub free : Free d mem id
-  pub room : recycledOf mem ≤ d .places
-
--- The token made of it has its id.
-pub token-id : (id cap-type rights : ℕ) → id < 2 ^ 48 → idOf (tokenOf id cap-type rights) ≡ id
-token-id id cap-type rights fits = omega arith
-
--- What registering it asks for, with a link that names its parent or none.
-pub record Registration (d : Numbers) (mem : List ℕ) (id link : ℕ) : Type 0 where
-  pub sound : SoundAt d mem
-  pub room : registeredOf mem < d .places
-  pub hand : InHand d mem id
-  pub parent : Parent (d .places) (registeredOf mem) link (view d registry mem)
-
--- The id stands in the last place of the registry, and there is room to give it back.
-pub record Newest (d : Numbers) (mem : List ℕ) (id : ℕ) : Type 0 where
-  pub some : 0 < registeredOf mem
-  pub last : ids d mem (registeredOf mem - 1) ≡ id
-  pub room : recycledOf mem ≤ d .places
-
--- ---- register, insert
-
-module _ (d : Numbers) (mem : List ℕ) (id object link : ℕ) (reg : Registration d mem id link) where
-  pub registered-kept : Kept d mem (registerStep d id object link mem)
-  registered-kept = register-step-kept d mem (reg .sound) id object link (reg .room) (reg .hand .free) (reg .parent)
-
-  registered-newest : Newest d (registerStep d id object link mem) id
-  registered-newest =
-      let n : ℕ = registeredOf mem in
-      let rg : List ℕ = view d registry mem in
-      let changed = register-step d mem (reg .sound) id object link (reg .room) in
-      let long : 5 * d .places + 1 ≤ length rg = registry-words d mem (reg .sound .long-enough) in
-      record {
-        some = omega (arith, changed .new-word);
-        last =
-            ap (ids d (registerStep d id object link mem)) (omega (arith, changed .new-word)) ∙ ap (λ rg. idAt rg n) (changed .new-registry)
-            ∙ registered-new (d .places) n id object link rg (reg .room) long .new-id;
-        room = rw (changed .same-word 12 (omega arith) (omega arith)) (reg .hand .room);
-      }
-
-module _ (d : Numbers) (mem : List ℕ) (sound : SoundAt d mem) where
-  pub taken-in-hand : (id : ℕ) → takenId d mem ≡ Id id → InHand d (takeStep d mem) id
-  taken-in-hand id is = record { free = taken-free d mem sound id is; room = taken-room d mem sound id is }
-
-  pub given-back : (id : ℕ) → InHand d mem id → Kept d mem (recycleStep d id mem)
-  given-back id h = recycle-step-kept d mem sound id (h .room) (h .free)
-
-  module _ (s : ℕ) (valid : s < d .spaces) where
-    -- An insert changes holders alone.
-    inserted-newest :
-        (e : CapabilityEntry) → e .rights .0 < 2 ^ 32 → (id : ℕ) → Newest d mem id → Newest d (insertStep d s e mem) id
-    inserted-newest e fits id newest =
-        let after : List ℕ = insertStep d s e mem in
-        let only : OnlySpace d s mem after = insert-step d mem sound s valid e fits .only in
-        let same-count : registeredOf after ≡ registeredOf mem = only .same-head 11 (omega arith) in
-        record {
-          some = rw same-count (newest .some);
-          last =
-              same-ids (d .places) _ _ (only .only-holders) (registeredOf after - 1)
-              (omega (arith, same-count, sound .registered-fit, newest .some))
-              ∙ ap (ids d mem) (omega (arith, same-count)) ∙ newest .last;
-          room = rw (only .same-head 12 (omega arith)) (newest .room);
-        }
-
-    pub admitted-kept :
-        (id token object rights i : ℕ) → rights < 2 ^ 32 → 7 ≤ i → i < 11 → Newest d mem id
-        → Kept d mem (admitted d s id token object rights i mem .memory)
-    unfolding admitted
-    admitted-kept id token object rights i fits low high newest =
-        let e : CapabilityEntry = newEntry token object rights in
-        let after : List ℕ = insertStep d s e mem in
-        let came : Kept d mem after = insert-step-kept d mem sound s valid e fits in
-        let still : Newest d after id = inserted-newest e fits id newest in
-        let k : ℕ = registeredOf after - 1 in
-        pick-by-cases (λ (out : Left Reply). Kept d mem (out .memory)) _ _ (eqb (numberOf (insertOut (spaceOf d s mem) e .answer)) 0)
-        (λ accepted. kept-trans d mem after _ came (add-step-kept d after (came .sound) i 1 (omega arith) high))
-        (λ refused.
-        kept-trans d mem after _ came
-        (subst (λ x. Kept d after (recycleStep d x (unregisterStep d k after))) (still .last)
-        (recycle-after-unregister d after (came .sound) k (omega (arith, still .some)) (still .room))))
-
--- Registered and inserted.
-pub registered-admitted :
-    (d : Numbers) (mem : List ℕ) (s id token object link rights i : ℕ) → Registration d mem id link → s < d .spaces → rights < 2 ^ 32
-    → 7 ≤ i → i < 11 → Kept d mem (admitted d s id token object rights i (registerStep d id object link mem) .memory)
-registered-admitted d mem s id token object link rights i reg valid fits low high =
-    let there = registered-kept d mem id object link reg in
-    kept-trans d mem _ _ there
-    (admitted-kept d _ (there .sound) s valid id token object rights i fits low high (registered-newest d mem id object link reg))
-
--- ---- create
-
--- A created id has no parent.
-pub parentless :
-    (d : Numbers) (mem : List ℕ) → SoundAt d mem → (id : ℕ) → registeredOf mem < d .places → InHand d mem id → Registration d mem id 0
-parentless d mem sound id room h =
-    record { sound = sound; room = room; hand = h; parent = no-parent (d .places) (registeredOf mem) (view d registry mem) }
+-- ---- create, once an id was asked for
 
 module _ (d : Numbers) (mem : List ℕ) (sound : SoundAt d mem) (s : ℕ) (valid : s < d .spaces) where
   pub created-kept :
@@ -163,222 +43,72 @@ module _ (d : Numbers) (mem : List ℕ) (sound : SoundAt d mem) (s : ℕ) (valid
       registered-admitted d mem s id (tokenOf id cap-type rights) object 0 rights 7
       (parentless d mem sound id room (taken id refl)) valid fits (omega arith) (omega arith))
 
--- ---- delegate: the children that there are already
+-- ---- delegate, by its ways
 
--- They are looked up, and nothing else is done.
-pub offered-by-lookups :
-    (d : Numbers) (target p cap-type rights : ℕ) (P : List ℕ → Type 0)
-    → ((mem : List ℕ) (token : ℕ) → P mem → P (lookupStep d target token mem)) → (k m : ℕ) (mem : List ℕ) → P mem
-    → P (offeredFrom d target p cap-type rights k m mem .memory)
-unfolding offeredFrom
-offered-by-lookups d target p cap-type rights P step k zero mem h = h
-offered-by-lookups d target p cap-type rights P step k (suc m) mem h =
-    let token : ℕ = tokenOf (ids d mem k) cap-type rights in
-    let Still : Offered → Type 0 = λ (o : Offered). P (o .memory) in
-    let later : (after : List ℕ) → P after → P (offeredFrom d target p cap-type rights (k + 1) m after .memory) =
-    offered-by-lookups d target p cap-type rights P step (k + 1) m in
-    pick-by-cases Still _ _ (openChild d mem p k)
-    (λ child.
-    pick-by-cases Still _ _ (heldWith rights (lookedUp (spaceOf d target mem) token .got))
-    (λ held. step mem token h)
-    (λ other. later _ (step mem token h)))
-    (λ none′. later mem h)
+module _ (mem : List ℕ) (sound : Sound mem) (token source target rights : ℕ) (fits : rights < 2 ^ 32) where
+  abbrev numbers : Numbers
+  numbers = numbersOf mem
 
-pub offered-kept :
-    (d : Numbers) (target p cap-type rights k m : ℕ) (mem : List ℕ) → target < d .spaces → SoundAt d mem
-    → Kept d mem (offeredFrom d target p cap-type rights k m mem .memory)
-offered-kept d target p cap-type rights k m mem valid sound =
-    offered-by-lookups d target p cap-type rights (Kept d mem)
-    (λ mid token kept. kept-trans d mem mid _ kept (lookup-step-kept d mid (kept .sound) target valid token)) k m mem
-    (kept-refl d mem sound)
+  abbrev Took : Type 0
+  Took = delegate.Took mem token source target rights
 
--- ---- delegate: a new child
+  taken-kept : (t : Took) → Kept numbers mem (takeStep numbers (delegate.from mem token source target rights t))
+  taken-kept t =
+      let base = delegate.base-kept mem token source target rights (t .asked .granted) in
+      kept-trans numbers mem _ _ base (take-step-kept numbers _ (base .sound))
 
-module _ (d : Numbers) (mem : List ℕ) (sound : SoundAt d mem) where
-  abbrev n : ℕ
-  n = registeredOf mem
+  -- The id is given back,
+  back-kept : (t : Took) → Kept numbers mem (delegate.back mem token source target rights t)
+  back-kept t =
+      let taken = taken-kept t in
+      let base = delegate.base-kept mem token source target rights (t .asked .granted) in
+      kept-trans numbers mem _ _ taken (given-back numbers _ (taken .sound) (t .id) (taken-in-hand numbers _ (base .sound) (t .id) (t .is)))
 
-  abbrev rg : List ℕ
-  rg = view d registry mem
+  -- or the parent has a list from now on, and the child is registered and admitted.
+  child-keeps :
+      (g : delegate.Good mem token source target rights)
+      → registeredOf (delegate.from mem token source target rights (g .took)) < numbersOf mem .places
+      → Keeps mem (delegateOut mem token source target rights)
+  child-keeps g room =
+      let t : Took = g .took in
+      let granted = t .asked .granted in
+      let p : ℕ = delegate.parent mem token source target rights t in
+      let taken = taken-kept t in
+      subst (Keeps mem) (sym (delegate.room-goes mem token source target rights t (g .inside) (g .good) room))
+      (kept-trans numbers mem _ _ (kept-trans numbers mem _ _ taken (list-step-kept numbers _ (taken .sound) p (omega (arith, g .inside))))
+      (registered-admitted numbers _ target (t .id) _ (objects numbers (delegate.from mem token source target rights t) p) (suc p) _ 8
+      (recording mem token source target rights g room) (granted .entered .to)
+      (omega (arith, and-le-r (granted .entry .rights .0) rights)) (omega arith) (omega arith)))
 
-  long : 5 * d .places + 1 ≤ length rg
-  long = registry-words d mem (sound .long-enough)
+  pub delegate-keeps : Keeps mem (delegateOut mem token source target rights)
+  delegate-keeps = subst (Keeps mem) (sym (delegate.goes mem token source target rights way)) (go way)
+    where
+      way : delegate.Way mem token source target rights
+      way = delegate.way mem token source target rights
 
-  -- Only a registered id has children: links name earlier places.
-  pub parent-registered : (p : ℕ) → 0 < childrenOf d mem p → p < registeredOf mem
-  unfolding children
-  parent-registered p some =
-      by-cases (decLt p n) (λ inside. inside)
-      (λ outside.
-      absurd
-      (omega (
-        arith,
-        sum-const-zero (λ k. one (childOf (links d mem) p k)) n
-            (λ k l. ap one (ne-eqb (links d mem k) (suc p) (λ e. omega (arith, sound .linked k l)))),
-      )))
+      as-it-is : Kept numbers mem mem
+      as-it-is = kept-refl numbers mem sound
 
-  module _ (p : ℕ) (inside : p < registeredOf mem) where
-    -- The collection leaves the parent in its place.
-    pub collected-place : (x : ℕ) → placeIn d mem x ≡ p → placeIn d (collectStep d p mem) x ≡ p
-    collected-place x is =
-        let after : List ℕ = collectStep d p mem in
-        let changed = collect-step d mem sound p inside in
-        let kept = collect-step-kept d mem sound p inside in
-        let stays = collected-parent (d .places) p n rg inside (sound .registered-fit) long (sound .linked) in
-        place-is (registeredOf after) (view d registry after) x p (kept .sound .ids-differ)
-        (rw (changed .new-word) (stays .registered-still))
-        (ap (λ ws. idAt ws p) (changed .new-registry) ∙ stays .same-id ∙ ap (ids d mem) (sym is)
-        ∙ place-holds n rg x (rw is inside))
+      go : (w : delegate.Way mem token source target rights) → Keeps mem (delegate.outOf mem token source target rights w)
+      go (delegate.bad-world bad) = as-it-is
+      go (delegate.bad-source good far) = as-it-is
+      go (delegate.bad-target good there far) = as-it-is
+      go (delegate.absent entered none) = delegate.looked-kept mem token source target rights entered
+      go (delegate.ungranted entered e found none) = delegate.looked-kept mem token source target rights entered
+      go (delegate.reused g held) = delegate.offer-kept mem token source target rights g
+      go (delegate.crowded g none many) = delegate.base-kept mem token source target rights g
+      go (delegate.exhausted a is) =
+          let base = delegate.base-kept mem token source target rights (a .granted) in
+          kept-trans numbers mem _ _ base (take-step-kept numbers _ (base .sound))
+      go (delegate.orphaned t outside) = back-kept t
+      go (delegate.stale t inside is) = back-kept t
+      go (delegate.full g over) = back-kept (g .took)
+      go (delegate.refused g room none) =
+          subst (Keeps mem) (delegate.goes mem token source target rights (delegate.refused g room none)) (child-keeps g room)
+      go (delegate.accepted g room a) =
+          subst (Keeps mem) (delegate.goes mem token source target rights (delegate.accepted g room a)) (child-keeps g room)
 
-    -- The parent once it has a list: it is the one that a child's link may name.
-    listed-parent :
-        revoked (states d mem p) ≡ 0 → childrenOf d mem p < 1024
-        → Parent (d .places) (registeredOf (listStep d p mem)) (suc p) (view d registry (listStep d p mem))
-    listed-parent unrevoked few =
-        let below : p < d .places = omega (arith, sound .registered-fit) in
-        let changed = list-step d mem sound p below in
-        let only = list-given-state (d .places) p rg below long in
-        let fit = sound .registered-fit in
-        rw (changed .same-word 11 (omega arith) (omega arith), changed .new-registry)
-        (record {
-          earlier = omega arith;
-          has-list = λ q e. rw (← (pred-same e)) (only .listed-here);
-          room = λ q e.
-              rw (← (pred-same e))
-              (rw
-              (children-same n (links d mem) _ (λ k l. list-given-other (d .places) p rg below long (3 * d .places + k) (omega arith)) p)
-              few);
-          unrevoked = λ q e. rw (← (pred-same e)) (only .revoked-stays p ∙ unrevoked);
-        })
-      where
-        pred-same : {q : ℕ} → suc p ≡ suc q → p ≡ q
-        pred-same e = omega arith
-
-    -- Free still.
-    listed-in-hand : (id : ℕ) → InHand d mem id → InHand d (listStep d p mem) id
-    listed-in-hand id h =
-        let below : p < d .places = omega (arith, sound .registered-fit) in
-        let changed = list-step d mem sound p below in
-        let same = list-ids d mem sound p below in
-        record {
-          free = record {
-            positive = h .free .positive;
-            fits = h .free .fits;
-            issued = rw (same .same-next) (h .free .issued);
-            unregistered = λ k l e.
-                let u : k < n = rw (changed .same-word 11 (omega arith) (omega arith)) at l in
-                h .free .unregistered k u
-                (sym (list-given-other (d .places) p rg below long k (omega (arith, sound .registered-fit)))
-                ∙ sym (ap (λ ws. idAt ws k) (changed .new-registry)) ∙ e);
-            not-recycled = λ k l e. h .free .not-recycled k (rw (same .same-count) at l) (sym (same .same-recycled k) ∙ e);
-          };
-          room = rw (same .same-count) (h .room);
-        }
-
-    -- A child of an unrevoked parent, whose list has room.
-    pub child-registration :
-        (id : ℕ) → registeredOf mem < d .places → InHand d mem id → revoked (states d mem p) ≡ 0 → childrenOf d mem p < 1024
-        → Registration d (listStep d p mem) id (suc p)
-    child-registration id room h unrevoked few =
-        let below : p < d .places = omega (arith, sound .registered-fit) in
-        record {
-          sound = list-step-kept d mem sound p below .sound;
-          room = rw (list-step d mem sound p below .same-word 11 (omega arith) (omega arith)) room;
-          hand = listed-in-hand id h;
-          parent = listed-parent unrevoked few;
-        }
-
-module _ (d : Numbers) (target : ℕ) (valid : target < d .spaces) (token rights : ℕ) (fits : rights < 2 ^ 32) where
-  abbrev parent : List ℕ → ℕ
-  parent mem = placeIn d mem (idOf token)
-
-  pub derived-with-kept :
-      (mem : List ℕ) → SoundAt d mem → (id p : ℕ) → p < registeredOf mem → revoked (states d mem p) ≡ 0 → childrenOf d mem p < 1024
-      → registeredOf mem < d .places → InHand d mem id → Kept d mem (derivedWith d target token rights id p mem .memory)
-  derived-with-kept mem sound id p inside unrevoked few room h =
-      kept-trans d mem _ _ (list-step-kept d mem sound p (omega arith))
-      (registered-admitted d _ target id (tokenOf id (typeOf token) rights) (objects d mem p) (suc p) rights 8
-      (child-registration d mem sound p inside id room h unrevoked few) valid fits (omega arith) (omega arith))
-
-  pub derived-kept :
-      (mem : List ℕ) → SoundAt d mem → childrenOf d mem (placeIn d mem (idOf token)) < 1024 → (t : Taken)
-      → ((id : ℕ) → t ≡ Id id → InHand d mem id) → Kept d mem (derived d target token rights mem t .memory)
-  derived-kept mem sound few Exhausted taken = kept-refl d mem sound
-  derived-kept mem sound few (Id id) taken =
-      let keeps : Left Reply → Type 0 = λ (out : Left Reply). Kept d mem (out .memory) in
-      let p : ℕ = parent mem in
-      let back : Kept d mem (recycleStep d id mem) = given-back d mem sound id (taken id refl) in
-      unless-below keeps _ _ p (registeredOf mem)
-      (λ unregistered. back)
-      (λ inside.
-      when-by-cases keeps _ _ (not (current d mem token p))
-      (λ stale. back)
-      (λ is.
-      let unrevoked = eqb-true _ 0 (both-left (eqb (revoked (states d mem p)) 0) _ (not-false (current d mem token p) is)) in
-      unless-below keeps _ _ (registeredOf mem) (d .places)
-      (λ full. back)
-      (λ room. derived-with-kept mem sound id p inside unrevoked few room (taken id refl))))
-
-  pub with-id-kept :
-      (mem : List ℕ) → SoundAt d mem → childrenOf d mem (placeIn d mem (idOf token)) < 1024
-      → Kept d mem (withId d target token rights mem .memory)
-  unfolding withId
-  with-id-kept mem sound few =
-      let taking = take-step-kept d mem sound in
-      let same = take-same d mem sound in
-      let still : childrenOf d (takeStep d mem) (parent (takeStep d mem)) < 1024 =
-      rw (same-place d mem _ same (idOf token), same-children d mem _ same (parent mem)) few in
-      kept-trans d mem _ _ taking (derived-kept _ (taking .sound) still (takenId d mem) (taken-in-hand d mem sound))
-
-  pub with-room-kept : (mem : List ℕ) → SoundAt d mem → Kept d mem (withRoom d target token rights mem .memory)
-  unfolding withRoom
-  with-room-kept mem sound =
-      let keeps : Left Reply → Type 0 = λ (out : Left Reply). Kept d mem (out .memory) in
-      let p : ℕ = parent mem in
-      let after : List ℕ = collectStep d p mem in
-      pick-by-cases keeps _ _ (ltb (childrenOf d mem p) 1024)
-      (λ few. with-id-kept mem sound (ltb-true _ 1024 few))
-      (λ many.
-      let inside = parent-registered d mem sound p (omega (arith, ltb-false (childrenOf d mem p) 1024 many)) in
-      let collecting = collect-step-kept d mem sound p inside in
-      unless-below keeps _ _ (childrenOf d after p) 1024
-      (λ still. collecting)
-      (λ few.
-      kept-trans d mem after _ collecting
-      (with-id-kept after (collecting .sound)
-      (rw (collected-place d mem sound p inside (idOf token) refl) few))))
-
-  pub offering-kept :
-      (mem : List ℕ) (o : Offered) → Kept d mem (o .memory) → Kept d mem (offering d target token rights o .memory)
-  offering-kept mem o looked =
-      pick-by-cases (λ (out : Left Reply). Kept d mem (out .memory)) _ _ (o .held)
-      (λ held. looked)
-      (λ none. kept-trans d mem _ _ looked (with-room-kept (o .memory) (looked .sound)))
-
-pub granting-kept :
-    (d : Numbers) (target : ℕ) → target < d .spaces → (token rights : ℕ) → rights < 2 ^ 32 → (mem : List ℕ) → SoundAt d mem → (got : Got)
-    → Kept d mem (granting d target token rights mem got .memory)
-granting-kept d target valid token rights fits mem sound Nothing = kept-refl d mem sound
-granting-kept d target valid token rights fits mem sound (Entry e) =
-    let shared : ℕ = common (e .rights .0) rights in
-    when-by-cases (λ (out : Left Reply). Kept d mem (out .memory)) _ _ (not (holds (e .rights .0) (2 ^ 3)))
-    (λ without. kept-refl d mem sound)
-    (λ grant.
-    offering-kept d target valid token shared (omega (arith, and-le-r (e .rights .0) rights)) mem (offered d target token shared mem)
-    (offered-kept d target (placeIn d mem (idOf token)) (typeOf token) shared 0 (registeredOf mem) mem valid sound))
-
--- ---- delete
-
--- The id leaves the registry and is recycled.
-pub deleted-kept :
-    (d : Numbers) (mem : List ℕ) → SoundAt d mem → (id : ℕ) → placeIn d mem id < registeredOf mem → recycledOf mem ≤ d .places
-    → Kept d mem (recycleStep d id (unregisterStep d (placeIn d mem id) mem))
-deleted-kept d mem sound id inside room =
-    let k : ℕ = placeIn d mem id in
-    subst (λ x. Kept d mem (recycleStep d x (unregisterStep d k mem))) (place-holds (registeredOf mem) (view d registry mem) id inside)
-    (recycle-after-unregister d mem sound k inside room)
-
--- ---- the calls
+-- ---- create, delete and check
 
 module _ (mem : List ℕ) (sound : Sound mem) where
   abbrev d : Numbers
@@ -398,18 +128,6 @@ module _ (mem : List ℕ) (sound : Sound mem) where
       (λ on.
       kept-trans d mem _ _ taking
       (created-kept d _ (taking .sound) s there object cap-type rights fits (takenId d mem) (taken-in-hand d mem sound)))))
-
-  pub delegate-keeps : (token source target rights : ℕ) → rights < 2 ^ 32 → Keeps mem (delegateOut mem token source target rights)
-  unfolding delegateOut
-  delegate-keeps token source target rights fits =
-      on-space mem sound _ _ source
-      (λ from.
-      unless-below (Keeps mem) _ _ target (d .spaces)
-      (λ far. kept-refl d mem sound)
-      (λ to.
-      let looked = lookup-step-kept d mem sound source from token in
-      kept-trans d mem _ _ looked
-      (granting-kept d target to token rights fits _ (looked .sound) (lookedUp (spaceOf d source mem) token .got))))
 
   pub delete-keeps : (token : ℕ) → Keeps mem (deleteOut mem token)
   delete-keeps token =

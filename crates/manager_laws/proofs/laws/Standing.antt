@@ -42,7 +42,7 @@ use Rattle.manager_laws.proofs.laws.Delegated as delegate
 use Rattle.manager_laws.proofs.laws.Recording.{listed-count, recording}
 use Rattle.manager_laws.proofs.laws.SameIds.{SameIds, ids-trans, register-ids, insert-ids, count-ids}
 use Rattle.manager_laws.proofs.laws.SameRegistered.{take-same}
-use Rattle.manager_laws.proofs.laws.Sound.{Registration, registered-kept, taken-in-hand, token-id}
+use Rattle.manager_laws.proofs.laws.StepsKept.{Registration, registered-kept, taken-in-hand, token-id}
 
 -- The id at place k, and the space s with its token.
 pub record Stands (d : Numbers) (s id k link : ℕ) (e : CapabilityEntry) (after : List ℕ) : Type 0 where

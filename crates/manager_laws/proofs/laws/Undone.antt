@@ -27,7 +27,7 @@ use Rattle.world.specs.declared.Numbers.{Numbers}
 use Rattle.manager_laws.proofs.laws.Admitted.{refused-number}
 use Rattle.manager_laws.proofs.laws.SameIds.{SameIds, register-ids, unregister-ids, ids-trans}
 use Rattle.manager_laws.proofs.laws.SameRegistered.{SameRegistered, registered-trans, same-places, recycle-same}
-use Rattle.manager_laws.proofs.laws.Sound.{Registration, registered-kept}
+use Rattle.manager_laws.proofs.laws.StepsKept.{Registration, registered-kept}
 use Rattle.manager_laws.proofs.laws.Spent.{Recycled, recycle-has}
 
 -- Word 12 of the head is the number of recycled ids.
