@@ -2,8 +2,8 @@
 pub mod SameRegistered
 pub mod SameIds
 pub mod Ways
-pub mod StepsKept
 pub mod Admitted
+pub mod StepsKept
 pub mod Created
 pub mod Roomed
 pub mod Delegated

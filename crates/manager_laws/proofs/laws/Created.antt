@@ -93,7 +93,7 @@ module _ (mem : List ℕ) (s object : ℕ) (valid : Bool) (cap-type rights : ℕ
   outOf (full t over) = refuse (recycleStep (numbersOf mem) (t .id) taken) RegistryFull
   outOf (refused t room none) =
       refuse
-      (recycleStep (numbersOf mem) (t .id) (unregisterStep (numbersOf mem) (registeredOf (inserted t) - 1) (inserted t)))
+      (recycleStep (numbersOf mem) (t .id) (unregisterStep (numbersOf mem) (registeredOf (recorded t) - 1) (recorded t)))
       OutOfMemory
   outOf (accepted t room a) =
       record {

@@ -163,7 +163,7 @@ module _ (mem : List ℕ) (token source target rights : ℕ) where
   outOf (stale t inside not-current) = refuse (back t) CapabilityRevoked
   outOf (full g over) = refuse (back (g .took)) RegistryFull
   outOf (refused g room none) =
-      let after = insertedChild (g .took) in
+      let after = recorded (g .took) in
       refuse
       (recycleStep (numbersOf mem) (g .took .id) (unregisterStep (numbersOf mem) (registeredOf after - 1) after))
       OutOfMemory
@@ -325,11 +325,9 @@ module _ (mem : List ℕ) (token source target rights : ℕ) where
             admitted d target (t .id) (tokenOf (t .id) (typeOf token) sh) object sh 8
             (registerStep d (t .id) object (suc p) (listStep d p taken))
 
-        pub room-goes :
+        room-goes :
             registeredOf (from t) < numbersOf mem .places
-            → delegateOut mem token source target rights
-            ≡ admitted (numbersOf mem) target (t .id) (childEntry t .capability .0) (objects (numbersOf mem) (from t) (parent t))
-            (shared (t .asked .granted)) 8 (recorded t)
+            → delegateOut mem token source target rights ≡ childAt (parent t) (objects d r (parent t))
         room-goes room =
             took-goes t ∙ when-no _ _ _ (ap not inside-still) ∙ when-no _ _ _ (ap not (as-current ∙ good))
             ∙ when-no _ _ _ (ap not (lt-ltb (registeredOf taken) (d .places) (rw (same .same-count) room)))

@@ -1,49 +1,63 @@
 -- Every call keeps a sound memory sound, with its numbers, its length and every word past the regions (`Kept`), whatever it answers.
-use mathlib.Core.Bool.{Bool, not}
+use mathlib.Core.Bool.{Bool}
 use mathlib.Core.List.{List}
-use mathlib.Core.Path.{_≡_, refl, sym, subst}
-use Prim.Native.Nat.{ℕ, suc, _^_, _<_}
+use mathlib.Core.Path.{sym, subst}
+use Prim.Native.Nat.{ℕ, _^_, _<_}
 use native.Mathlib.Omega.{arith}
 use lib.Bits.{and-le-r}
-use lib.Dec.{ltb}
-use Rattle.steps.specs.Replies.{Left}
-use Rattle.steps.specs.Steps.{lookupStep, takenId, takeStep, objects}
-use Rattle.steps.specs.declared.Reply.{Reply}
-use Rattle.steps.specs.declared.Taken.{Taken}
-use Rattle.steps.specs.declared.Taken.the-variants.{Id, Exhausted}
-use Rattle.steps.proofs.laws.Called.{Keeps, on-space}
-use Rattle.steps.proofs.laws.Cases.{when-by-cases, unless-below}
+use Rattle.steps.specs.Steps.{lookupStep, takeStep}
+use Rattle.steps.proofs.laws.Called.{Keeps}
 use Rattle.steps.proofs.laws.Kept.{Kept, kept-refl, kept-trans}
 use Rattle.steps.proofs.laws.RegistrySteps.{list-step-kept, add-step-kept}
 use Rattle.steps.proofs.laws.SpaceSteps.{lookup-step-kept}
 use Rattle.steps.proofs.laws.TakeStep.{take-step-kept}
 use Rattle.token.specs.Token.{idOf}
-use Rattle.world.specs.Numbers.{numbersOf, registeredOf}
-use Rattle.world.specs.Sound.{SoundAt, Sound}
+use Rattle.world.specs.Numbers.{numbersOf}
+use Rattle.world.specs.Sound.{Sound}
 use Rattle.world.specs.declared.Numbers.{Numbers}
 use Rattle.delegation_calls.specs.Delegation.{delegateOut}
-use Rattle.manager_calls.specs.Calls.{created, createOut, deleteOut, checkOut}
-use Rattle.manager_calls.specs.Tokens.{tokenOf}
+use Rattle.manager_calls.specs.Calls.{createOut, deleteOut, checkOut}
+use Rattle.manager_laws.proofs.laws.Created as create
 use Rattle.manager_laws.proofs.laws.Delegated as delegate
-use Rattle.manager_laws.proofs.laws.Recording.{recording}
-use Rattle.manager_laws.proofs.laws.StepsKept.{InHand, taken-in-hand, given-back, registered-admitted, parentless, deleted-kept}
+use Rattle.manager_laws.proofs.laws.Recording.{listed, recording}
+use Rattle.manager_laws.proofs.laws.StepsKept.{taken-in-hand, given-back, entered-kept, undone-kept, deleted-kept}
 use Rattle.manager_laws.proofs.laws.Ways.{delete-by-cases, check-by-cases}
 
--- ---- create, once an id was asked for
+-- ---- create and delegate, by their ways
 
-module _ (d : Numbers) (mem : List ℕ) (sound : SoundAt d mem) (s : ℕ) (valid : s < d .spaces) where
-  pub created-kept :
-      (object cap-type rights : ℕ) → rights < 2 ^ 32 → (t : Taken) → ((id : ℕ) → t ≡ Id id → InHand d mem id)
-      → Kept d mem (created d s object cap-type rights mem t .memory)
-  created-kept object cap-type rights fits Exhausted taken = kept-refl d mem sound
-  created-kept object cap-type rights fits (Id id) taken =
-      unless-below (λ (out : Left Reply). Kept d mem (out .memory)) _ _ (registeredOf mem) (d .places)
-      (λ full. given-back d mem sound id (taken id refl))
-      (λ room.
-      registered-admitted d mem s id (tokenOf id cap-type rights) object 0 rights 7
-      (parentless d mem sound id room (taken id refl)) valid fits (omega arith) (omega arith))
+module _ (mem : List ℕ) (sound : Sound mem) (s object : ℕ) (valid : Bool) (cap-type rights : ℕ) (fits : rights < 2 ^ 32) where
+  abbrev Way : Type 0
+  Way = create.Way mem s object valid cap-type rights
 
--- ---- delegate, by its ways
+  pub create-keeps : Keeps mem (createOut mem s object valid cap-type rights)
+  create-keeps = subst (Keeps mem) (sym (create.goes mem s object valid cap-type rights way)) (go way)
+    where
+      d : Numbers
+      d = numbersOf mem
+
+      way : Way
+      way = create.way mem s object valid cap-type rights
+
+      as-it-is : Kept d mem mem
+      as-it-is = kept-refl d mem sound
+
+      taking : Kept d mem (takeStep d mem)
+      taking = take-step-kept d mem sound
+
+      go : (w : Way) → Keeps mem (create.outOf mem s object valid cap-type rights w)
+      go (create.bad-world bad) = as-it-is
+      go (create.bad-space good far) = as-it-is
+      go (create.bad-type good there over) = as-it-is
+      go (create.bad-object good there small off) = as-it-is
+      go (create.exhausted a is) = taking
+      go (create.full t over) =
+          kept-trans d mem _ _ taking (given-back d _ (taking .sound) (t .id) (taken-in-hand d mem sound (t .id) (t .is)))
+      go (create.refused t room none) =
+          kept-trans d mem _ _ taking (undone-kept d _ (t .id) object 0 (create.recording mem s object valid cap-type rights t room))
+      go (create.accepted t room a) =
+          kept-trans d mem _ _ taking
+          (entered-kept d _ (t .id) object 0 (create.recording mem s object valid cap-type rights t room) s
+          (create.newToken mem s object valid cap-type rights t) rights 7 (t .asked .there) fits (omega arith) (omega arith))
 
 module _ (mem : List ℕ) (sound : Sound mem) (token source target rights : ℕ) (fits : rights < 2 ^ 32) where
   abbrev numbers : Numbers
@@ -64,21 +78,12 @@ module _ (mem : List ℕ) (sound : Sound mem) (token source target rights : ℕ)
       let base = delegate.base-kept mem token source target rights (t .asked .granted) in
       kept-trans numbers mem _ _ taken (given-back numbers _ (taken .sound) (t .id) (taken-in-hand numbers _ (base .sound) (t .id) (t .is)))
 
-  -- or the parent has a list from now on, and the child is registered and admitted.
-  child-keeps :
-      (g : delegate.Good mem token source target rights)
-      → registeredOf (delegate.from mem token source target rights (g .took)) < numbersOf mem .places
-      → Keeps mem (delegateOut mem token source target rights)
-  child-keeps g room =
-      let t : Took = g .took in
-      let granted = t .asked .granted in
-      let p : ℕ = delegate.parent mem token source target rights t in
-      let taken = taken-kept t in
-      subst (Keeps mem) (sym (delegate.room-goes mem token source target rights t (g .inside) (g .good) room))
-      (kept-trans numbers mem _ _ (kept-trans numbers mem _ _ taken (list-step-kept numbers _ (taken .sound) p (omega (arith, g .inside))))
-      (registered-admitted numbers _ target (t .id) _ (objects numbers (delegate.from mem token source target rights t) p) (suc p) _ 8
-      (recording mem token source target rights g room) (granted .entered .to)
-      (omega (arith, and-le-r (granted .entry .rights .0) rights)) (omega arith) (omega arith)))
+  -- or the parent has a list from now on.
+  listed-kept : (g : delegate.Good mem token source target rights) → Kept numbers mem (listed mem token source target rights g)
+  listed-kept g =
+      let taken = taken-kept (g .took) in
+      let base = delegate.base-kept mem token source target rights (g .took .asked .granted) in
+      kept-trans numbers mem _ _ taken (list-step-kept numbers _ (taken .sound) _ (omega (arith, g .inside, base .sound .registered-fit)))
 
   pub delegate-keeps : Keeps mem (delegateOut mem token source target rights)
   delegate-keeps = subst (Keeps mem) (sym (delegate.goes mem token source target rights way)) (go way)
@@ -104,30 +109,19 @@ module _ (mem : List ℕ) (sound : Sound mem) (token source target rights : ℕ)
       go (delegate.stale t inside is) = back-kept t
       go (delegate.full g over) = back-kept (g .took)
       go (delegate.refused g room none) =
-          subst (Keeps mem) (delegate.goes mem token source target rights (delegate.refused g room none)) (child-keeps g room)
+          kept-trans numbers mem _ _ (listed-kept g) (undone-kept numbers _ (g .took .id) _ _ (recording mem token source target rights g room))
       go (delegate.accepted g room a) =
-          subst (Keeps mem) (delegate.goes mem token source target rights (delegate.accepted g room a)) (child-keeps g room)
+          let granted = g .took .asked .granted in
+          kept-trans numbers mem _ _ (listed-kept g)
+          (entered-kept numbers _ (g .took .id) _ _ (recording mem token source target rights g room) target _
+          (delegate.shared mem token source target rights granted) 8 (granted .entered .to)
+          (omega (arith, and-le-r (granted .entry .rights .0) rights)) (omega arith) (omega arith))
 
--- ---- create, delete and check
+-- ---- delete and check
 
 module _ (mem : List ℕ) (sound : Sound mem) where
   abbrev d : Numbers
   d = numbersOf mem
-
-  pub create-keeps :
-      (s object : ℕ) (valid : Bool) (cap-type rights : ℕ) → rights < 2 ^ 32 → Keeps mem (createOut mem s object valid cap-type rights)
-  unfolding createOut
-  create-keeps s object valid cap-type rights fits =
-      on-space mem sound _ _ s
-      (λ there.
-      let as-it-is = kept-refl d mem sound in
-      let taking = take-step-kept d mem sound in
-      when-by-cases (Keeps mem) _ _ (ltb 15 cap-type) (λ over. as-it-is)
-      (λ good.
-      when-by-cases (Keeps mem) _ _ (not valid) (λ off. as-it-is)
-      (λ on.
-      kept-trans d mem _ _ taking
-      (created-kept d _ (taking .sound) s there object cap-type rights fits (takenId d mem) (taken-in-hand d mem sound)))))
 
   pub delete-keeps : (token : ℕ) → Keeps mem (deleteOut mem token)
   delete-keeps token =

@@ -1,5 +1,5 @@
--- What create, delegate and delete do keeps a sound memory sound, step by step, with its numbers, its length and every word past the regions
--- (`Kept`): an id that was taken is registered and admitted, or given back; children are offered; a parent with room is given a child.
+-- What create, delegate and delete do, step by step, keeps a sound memory sound (`Kept`): an id that was taken is registered, and its entry
+-- goes into a space or the id leaves again; or it is given back at once; children are offered; a child is registered under its parent.
 use mathlib.Core.List.{List}
 use mathlib.Core.Logic.{by-cases}
 use mathlib.Core.Path.{_≡_, sym, ap, subst, _∙_}
@@ -7,24 +7,17 @@ use Prim.Native.Nat.{ℕ, suc, _+_, _-_, _*_, _^_, _≤_, _<_}
 use native.Mathlib.Decide.{decLt}
 use native.Mathlib.Omega.{arith}
 use borrow.Author.Tests.{ne-eqb}
-use lib.Dec.{eqb}
 use lib.ListN.{length}
-use Rattle.answers.specs.Number.{numberOf}
 use Rattle.base.specs.Below.{one}
 use Rattle.base.specs.SumLaws.{sum-const-zero}
 use Rattle.registry.specs.CollectionLaws.{collected-parent}
-use Rattle.registry.specs.HoldersLaws.{same-ids, place-holds, place-is}
+use Rattle.registry.specs.HoldersLaws.{place-holds, place-is}
 use Rattle.registry.specs.RegisteringLaws.{Parent, no-parent, registered-new, list-given-other, list-given-state}
 use Rattle.registry.specs.Rules.{children-same}
 use Rattle.registry.specs.Words.{idAt, revoked, childOf, children}
-use Rattle.space.specs.Change.{insertOut}
-use Rattle.steps.specs.Replies.{Left}
-use Rattle.steps.specs.Steps.{spaceOf, newEntry, insertStep, takenId, takeStep, placeIn, registerStep, listStep, unregisterStep, recycleStep, collectStep, childrenOf}
-use Rattle.steps.specs.declared.Reply.{Reply}
+use Rattle.steps.specs.Steps.{newEntry, insertStep, takenId, takeStep, placeIn, registerStep, listStep, unregisterStep, recycleStep, collectStep, childrenOf, addStep}
 use Rattle.steps.specs.declared.Taken.the-variants.{Id}
-use Rattle.steps.proofs.laws.Cases.{pick-by-cases}
 use Rattle.steps.proofs.laws.Kept.{Kept, kept-refl, kept-trans}
-use Rattle.steps.proofs.laws.OnlySpace.{OnlySpace, insert-step}
 use Rattle.steps.proofs.laws.RegistrySteps.{register-step, register-step-kept, list-step, list-step-kept, recycle-step-kept, collect-step, collect-step-kept, add-step-kept, recycle-after-unregister}
 use Rattle.steps.proofs.laws.SpaceSteps.{lookup-step-kept, insert-step-kept}
 use Rattle.steps.proofs.laws.TakeStep.{Free, taken-free, taken-room}
@@ -37,7 +30,6 @@ use Rattle.world.specs.Views.{registry-words}
 use Rattle.world.specs.declared.Numbers.{Numbers}
 use Rattle.delegation_calls.specs.Delegation.{offeredFrom}
 use Rattle.delegation_calls.proofs.Offering.{offered-by-lookups}
-use Rattle.manager_calls.specs.Admit.{admitted}
 use Rattle.manager_calls.specs.Tokens.{tokenOf}
 use Rattle.manager_laws.proofs.laws.SameIds.{list-ids}
 
@@ -57,31 +49,40 @@ pub record Registration (d : Numbers) (mem : List ℕ) (id link : ℕ) : Type 0 
   pub hand : InHand d mem id
   pub parent : Parent (d .places) (registeredOf mem) link (view d registry mem)
 
--- The id stands in the last place of the registry, and there is room to give it back.
-pub record Newest (d : Numbers) (mem : List ℕ) (id : ℕ) : Type 0 where
-  pub some : 0 < registeredOf mem
-  pub last : ids d mem (registeredOf mem - 1) ≡ id
-  pub room : recycledOf mem ≤ d .places
-
 -- ---- register, insert
 
 module _ (d : Numbers) (mem : List ℕ) (id object link : ℕ) (reg : Registration d mem id link) where
   pub registered-kept : Kept d mem (registerStep d id object link mem)
   registered-kept = register-step-kept d mem (reg .sound) id object link (reg .room) (reg .hand .free) (reg .parent)
 
-  registered-newest : Newest d (registerStep d id object link mem) id
-  registered-newest =
+  abbrev with-id : List ℕ
+  with-id = registerStep d id object link mem
+
+  -- Its entry goes into a space, and is counted,
+  pub entered-kept :
+      (s token rights i : ℕ) → s < d .spaces → rights < 2 ^ 32 → 7 ≤ i → i < 11
+      → Kept d mem (addStep i 1 (insertStep d s (newEntry token object rights) (registerStep d id object link mem)))
+  entered-kept s token rights i valid fits low high =
+      let e : CapabilityEntry = newEntry token object rights in
+      let came = kept-trans d mem with-id _ registered-kept (insert-step-kept d with-id (registered-kept .sound) s valid e fits) in
+      kept-trans d mem _ _ came (add-step-kept d _ (came .sound) i 1 (omega arith) high)
+
+  -- or it leaves the last place again, and is recycled.
+  pub undone-kept :
+      let after = registerStep d id object link mem in Kept d mem (recycleStep d id (unregisterStep d (registeredOf after - 1) after))
+  undone-kept =
       let n : ℕ = registeredOf mem in
+      let k : ℕ = registeredOf with-id - 1 in
       let rg : List ℕ = view d registry mem in
       let changed = register-step d mem (reg .sound) id object link (reg .room) in
       let long : 5 * d .places + 1 ≤ length rg = registry-words d mem (reg .sound .long-enough) in
-      record {
-        some = omega (arith, changed .new-word);
-        last =
-            ap (ids d (registerStep d id object link mem)) (omega (arith, changed .new-word)) ∙ ap (λ rg. idAt rg n) (changed .new-registry)
-            ∙ registered-new (d .places) n id object link rg (reg .room) long .new-id;
-        room = rw (changed .same-word 12 (omega arith) (omega arith)) (reg .hand .room);
-      }
+      let last : ids d with-id k ≡ id =
+      ap (ids d with-id) (omega (arith, changed .new-word)) ∙ ap (λ rg. idAt rg n) (changed .new-registry)
+      ∙ registered-new (d .places) n id object link rg (reg .room) long .new-id in
+      kept-trans d mem with-id _ registered-kept
+      (subst (λ x. Kept d with-id (recycleStep d x (unregisterStep d k with-id))) last
+      (recycle-after-unregister d with-id (registered-kept .sound) k (omega (arith, changed .new-word))
+      (rw (changed .same-word 12 (omega arith) (omega arith)) (reg .hand .room))))
 
 module _ (d : Numbers) (mem : List ℕ) (sound : SoundAt d mem) where
   pub taken-in-hand : (id : ℕ) → takenId d mem ≡ Id id → InHand d (takeStep d mem) id
@@ -89,49 +90,6 @@ module _ (d : Numbers) (mem : List ℕ) (sound : SoundAt d mem) where
 
   pub given-back : (id : ℕ) → InHand d mem id → Kept d mem (recycleStep d id mem)
   given-back id h = recycle-step-kept d mem sound id (h .room) (h .free)
-
-  module _ (s : ℕ) (valid : s < d .spaces) where
-    -- An insert changes holders alone.
-    inserted-newest :
-        (e : CapabilityEntry) → e .rights .0 < 2 ^ 32 → (id : ℕ) → Newest d mem id → Newest d (insertStep d s e mem) id
-    inserted-newest e fits id newest =
-        let after : List ℕ = insertStep d s e mem in
-        let only : OnlySpace d s mem after = insert-step d mem sound s valid e fits .only in
-        let same-count : registeredOf after ≡ registeredOf mem = only .same-head 11 (omega arith) in
-        record {
-          some = rw same-count (newest .some);
-          last =
-              same-ids (d .places) _ _ (only .only-holders) (registeredOf after - 1)
-              (omega (arith, same-count, sound .registered-fit, newest .some))
-              ∙ ap (ids d mem) (omega (arith, same-count)) ∙ newest .last;
-          room = rw (only .same-head 12 (omega arith)) (newest .room);
-        }
-
-    pub admitted-kept :
-        (id token object rights i : ℕ) → rights < 2 ^ 32 → 7 ≤ i → i < 11 → Newest d mem id
-        → Kept d mem (admitted d s id token object rights i mem .memory)
-    unfolding admitted
-    admitted-kept id token object rights i fits low high newest =
-        let e : CapabilityEntry = newEntry token object rights in
-        let after : List ℕ = insertStep d s e mem in
-        let came : Kept d mem after = insert-step-kept d mem sound s valid e fits in
-        let still : Newest d after id = inserted-newest e fits id newest in
-        let k : ℕ = registeredOf after - 1 in
-        pick-by-cases (λ (out : Left Reply). Kept d mem (out .memory)) _ _ (eqb (numberOf (insertOut (spaceOf d s mem) e .answer)) 0)
-        (λ accepted. kept-trans d mem after _ came (add-step-kept d after (came .sound) i 1 (omega arith) high))
-        (λ refused.
-        kept-trans d mem after _ came
-        (subst (λ x. Kept d after (recycleStep d x (unregisterStep d k after))) (still .last)
-        (recycle-after-unregister d after (came .sound) k (omega (arith, still .some)) (still .room))))
-
--- Registered and inserted.
-pub registered-admitted :
-    (d : Numbers) (mem : List ℕ) (s id token object link rights i : ℕ) → Registration d mem id link → s < d .spaces → rights < 2 ^ 32
-    → 7 ≤ i → i < 11 → Kept d mem (admitted d s id token object rights i (registerStep d id object link mem) .memory)
-registered-admitted d mem s id token object link rights i reg valid fits low high =
-    let there = registered-kept d mem id object link reg in
-    kept-trans d mem _ _ there
-    (admitted-kept d _ (there .sound) s valid id token object rights i fits low high (registered-newest d mem id object link reg))
 
 -- ---- create
 

@@ -29,7 +29,7 @@ use Rattle.manager_laws.proofs.laws.DelegateTold.{delegate-told-26, del
 use Rattle.manager_laws.proofs.laws.Recording.{listed, recording}
 use Rattle.manager_laws.proofs.laws.SameRegistered.{SameRegistered, registered-trans, take-same}
 use Rattle.manager_laws.proofs.laws.Ways.{delete-by-cases, check-by-cases}
-use Rattle.manager_laws.proofs.laws.Undone.{Undone, admission-undone}
+use Rattle.manager_laws.proofs.laws.Undone.{Undone, registering-undone}
 
 -- Where none is left, nothing is taken.
 none-taken : (d : Numbers) (mem : List ℕ) → takenId d mem ≡ Exhausted → takeStep d mem ≡ mem
@@ -98,8 +98,7 @@ module _ (mem : List ℕ) (s object : ℕ) (valid : Bool) (cap-type rights : ℕ
       → Undone (numbersOf mem) (takeStep (numbersOf mem) mem) (t .id)
       (create.outOf mem s object valid cap-type rights (create.refused t room none) .memory)
   create-undone t room none =
-      admission-undone d _ (t .id) object 0 (create.recording mem s object valid cap-type rights t room) s _
-      (rw (create.recorded-space mem s object valid cap-type rights t room) none)
+      registering-undone d _ (t .id) object 0 (create.recording mem s object valid cap-type rights t room)
 
   pub create-4 :
       createOut mem s object valid cap-type rights .reply .answer ≡ OutOfMemory
@@ -242,9 +241,8 @@ module _ (mem : List ℕ) (token source target rights : ℕ) where
   delegate-undone g room none =
       let t : TookChild = g .took in
       let p : ℕ = delegate.parent mem token source target rights t in
-      admission-undone numbers _ (t .id) (objects numbers (delegate.from mem token source target rights t) p) (suc p)
-      (recording mem token source target rights g room) target _
-      (rw (delegate.recorded-space mem token source target rights t (g .inside) (g .good) room) none)
+      registering-undone numbers _ (t .id) (objects numbers (delegate.from mem token source target rights t) p) (suc p)
+      (recording mem token source target rights g room)
 
   pub delegate-4 :
       delegateOut mem token source target rights .reply .answer ≡ OutOfMemory

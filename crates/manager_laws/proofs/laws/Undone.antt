@@ -2,29 +2,22 @@
 -- they were before it was registered, and the id is recycled. Of the place that it leaves, which is free again, nothing is said.
 use mathlib.Core.List.{List}
 use mathlib.Core.Logic.{_↔_, Iff·trans, _≢_, _⊎_, inl, inr, ⊎-elim, by-cases}
-use mathlib.Core.Path.{_≡_, refl, sym, ap, subst, _∙_}
+use mathlib.Core.Path.{_≡_, sym, subst, _∙_}
 use Prim.Native.Nat.{ℕ, _+_, _-_, _*_, _≤_, _<_}
 use native.Mathlib.Decide.{ℕ-discrete}
 use native.Mathlib.Omega.{arith}
 use lib.ListN.{length, getD}
-use Rattle.answers.specs.Number.{numberOf}
-use Rattle.base.specs.Part.{onPart-same}
 use Rattle.registry.specs.Registering.{registered, unregistered}
 use Rattle.registry.specs.RegisteringLaws.{same-places-trans, registered-other}
 use Rattle.registry.specs.UnregisteringLaws.{unregistered-before}
-use Rattle.space.specs.Change.{insertOut}
-use Rattle.space.proofs.laws.Insert.{Accepts, refused-changes-nothing}
-use Rattle.steps.specs.Steps.{spaceOf, insertStep, registerStep, unregisterStep, recycleStep}
-use Rattle.steps.proofs.Entries.{insert-refused}
+use Rattle.steps.specs.Steps.{spaceOf, registerStep, unregisterStep, recycleStep}
 use Rattle.steps.proofs.laws.RegistryChanged.{RegistryChanged}
 use Rattle.steps.proofs.laws.RegistrySteps.{register-step, unregister-step, unregister-step-kept, recycle-step}
-use Rattle.table.specs.declared.CapabilityEntry.{CapabilityEntry}
 use Rattle.world.specs.Numbers.{registeredOf, recycledOf}
-use Rattle.world.specs.Regions.{space, registry, log, queue, startOf, sizeOf, view}
+use Rattle.world.specs.Regions.{registry, log, queue, view}
 use Rattle.world.specs.Sound.{SoundAt}
 use Rattle.world.specs.Views.{registry-words}
 use Rattle.world.specs.declared.Numbers.{Numbers}
-use Rattle.manager_laws.proofs.laws.Admitted.{refused-number}
 use Rattle.manager_laws.proofs.laws.SameIds.{SameIds, register-ids, unregister-ids, ids-trans}
 use Rattle.manager_laws.proofs.laws.SameRegistered.{SameRegistered, registered-trans, same-places, recycle-same}
 use Rattle.manager_laws.proofs.laws.StepsKept.{Registration, registered-kept}
@@ -38,14 +31,6 @@ pub record Undone (d : Numbers) (mem : List ℕ) (id : ℕ) (after : List ℕ) :
   pub recycled : (x : ℕ) → Recycled d after x ↔ ((x ≡ id) ⊎ Recycled d mem x)
   pub same-log : view d log after ≡ view d log mem
   pub same-queue : (q : ℕ) → q < d .queues → view d (queue q) after ≡ view d (queue q) mem
-
--- A refused insert changes nothing.
-refused-insert : (d : Numbers) (s : ℕ) (mem : List ℕ) (e : CapabilityEntry) → ¬ Accepts (spaceOf d s mem) e → insertStep d s e mem ≡ mem
-refused-insert d s mem e none =
-    let sp : List ℕ = spaceOf d s mem in
-    sym (insert-refused d s mem e _ _ _ refl refl refl (refused-number sp e none))
-    ∙ onPart-same (startOf d (space s)) (sizeOf d (space s)) (λ sp. insertOut sp e .words) mem
-    (refused-changes-nothing sp e (λ done. refused-number sp e none (ap numberOf done)) .0)
 
 module _ (d : Numbers) (mem : List ℕ) (id object link : ℕ) (reg : Registration d mem id link) where
   abbrev n : ℕ
@@ -99,7 +84,7 @@ module _ (d : Numbers) (mem : List ℕ) (id object link : ℕ) (reg : Registrati
       (λ is. subst (λ i. getD gone i 0 ≡ getD mem i 0) (sym is) (gone-registered .same-count))
       (λ other. left .same-word i l other ∙ came .same-word i l other)
 
-  pub undone : Undone d mem id (recycleStep d id (unregisterStep d (registeredOf mem) (registerStep d id object link mem)))
+  undone : Undone d mem id (recycleStep d id (unregisterStep d n with-id))
   undone =
       let back = recycle-step d gone gone-sound id gone-room in
       record {
@@ -117,13 +102,9 @@ module _ (d : Numbers) (mem : List ℕ) (id object link : ℕ) (reg : Registrati
         ⊎-elim inl (λ (j, (l, e)). inr (j, (rw (gone-ids .same-count) l, gone-ids .same-recycled j ∙ e))),
       )
 
-  -- So where the space does not take the entry of the id.
-  pub admission-undone :
-      (s : ℕ) (e : CapabilityEntry) → ¬ Accepts (spaceOf d s (registerStep d id object link mem)) e
-      → let after = insertStep d s e (registerStep d id object link mem) in
-      Undone d mem id (recycleStep d id (unregisterStep d (registeredOf after - 1) after))
-  admission-undone s e none =
+  -- The place that it leaves is the last.
+  pub registering-undone :
+      let after = registerStep d id object link mem in Undone d mem id (recycleStep d id (unregisterStep d (registeredOf after - 1) after))
+  registering-undone =
       let unmoved : registeredOf with-id - 1 ≡ n = omega (arith, came .new-word) in
-      subst (λ after. Undone d mem id (recycleStep d id (unregisterStep d (registeredOf after - 1) after)))
-      (sym (refused-insert d s with-id e none))
-      (subst (λ k. Undone d mem id (recycleStep d id (unregisterStep d k with-id))) (sym unmoved) undone)
+      subst (λ k. Undone d mem id (recycleStep d id (unregisterStep d k with-id))) (sym unmoved) undone
