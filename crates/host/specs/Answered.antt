@@ -15,15 +15,15 @@ use Rattle.host.specs.declared.flags.FlagsAnswer.{FlagsAnswer}
 use Rattle.host.specs.declared.flags.HasAnswer.{HasAnswer}
 use Rattle.host.specs.declared.tokens.TokenAnswer.{TokenAnswer}
 
-abbrev pub tokenAnswer : Made → TokenAnswer
+unfoldable pub tokenAnswer : Made → TokenAnswer
 tokenAnswer (Token made) = record { answer = 0; token = made .0 }
 tokenAnswer (Made.Refused why) = record { answer = numberOf why; token = 0 }
 
-abbrev pub hasAnswer : ℕ → Named → HasAnswer
+unfoldable pub hasAnswer : ℕ → Named → HasAnswer
 hasAnswer flags (Flag perm) = record { answer = 0; has = hasFlag flags perm }
 hasAnswer flags (Named.Refused why) = record { answer = numberOf why; has = false }
 
-abbrev pub flagsAnswer : Combined → FlagsAnswer
+unfoldable pub flagsAnswer : Combined → FlagsAnswer
 flagsAnswer (Flags flags) = record { answer = 0; flags = flags }
 flagsAnswer (Combined.Refused why) = record { answer = numberOf why; flags = 0 }
 
@@ -32,5 +32,5 @@ pub record Numbered : Type 0 where
   pub answer : ℕ
   pub memory : List ℕ
 
-abbrev pub numbered : Answered → Numbered
+unfoldable pub numbered : Answered → Numbered
 numbered left = record { answer = numberOf (left .answer); memory = left .memory }

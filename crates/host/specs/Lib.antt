@@ -2,6 +2,7 @@
 pub mod Answered
 pub mod Spaces
 pub mod Replies
+pub mod KnownLaws
 pub mod RepliesLaws
 pub mod Manager
 pub mod Revocation

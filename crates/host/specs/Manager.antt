@@ -5,9 +5,9 @@ use Rattle.manager_calls.specs.declared.TreeReply.{TreeReply}
 use Rattle.host.specs.declared.manager.ManagerAnswer.{ManagerAnswer}
 use Rattle.host.specs.declared.manager.TreeAnswer.{TreeAnswer}
 
-abbrev pub managerAnswer : StatsReply → ManagerAnswer
+unfoldable pub managerAnswer : StatsReply → ManagerAnswer
 managerAnswer r =
     record { answer = numberOf (r .answer); created = r .created; delegated = r .delegated; revoked = r .revoked; deleted = r .deleted }
 
-abbrev pub treeAnswer : TreeReply → TreeAnswer
+unfoldable pub treeAnswer : TreeReply → TreeAnswer
 treeAnswer r = record { answer = numberOf (r .answer); parents = r .parents; children = r .children }

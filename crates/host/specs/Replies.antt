@@ -6,11 +6,11 @@ use Rattle.steps.specs.Replies.{Left, Listed}
 use Rattle.steps.specs.declared.Reply.{Reply}
 use Rattle.host.specs.declared.replies.CallAnswer.{CallAnswer}
 
-abbrev pub callAnswer : Reply → CallAnswer
+unfoldable pub callAnswer : Reply → CallAnswer
 callAnswer r = record { answer = numberOf (r .answer); value = r .value; count = r .count }
 
 -- What a call leaves, with its reply seen so.
-abbrev pub told : {A B : Type 0} → (A → B) → Left A → Left B
+unfoldable pub told : {A B : Type 0} → (A → B) → Left A → Left B
 told seen left = record { reply = seen (left .reply); memory = left .memory }
 
 -- What a call leaves of a lent area, with its reply seen so.
@@ -18,5 +18,5 @@ pub record ListedAnswer : Type 0 where
   pub reply : CallAnswer
   pub area : List ℕ
 
-abbrev pub listedAnswer : Listed → ListedAnswer
+unfoldable pub listedAnswer : Listed → ListedAnswer
 listedAnswer l = record { reply = callAnswer (l .reply); area = l .area }

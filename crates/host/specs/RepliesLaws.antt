@@ -1,23 +1,22 @@
--- What a host is told of a call: its reply is the definition's, so what `answered` makes of the one is what the host sees of the other. One
--- law for each way that a call leaves its answer: alone, with the memory, with a lent area, with both.
+-- What a host is told of a call: its reply is the definition's, so what is seen of the one is what the host sees of the other. One law for
+-- each way that a call leaves its answer beside something: the memory, a lent area, both. Alone it is `of-known`.
 use mathlib.Core.List.{List}
-use mathlib.Core.Path.{_≡_, ap}
+use mathlib.Core.Path.{_≡_, refl, ap}
 use Prim.Native.Nat.{ℕ}
 use Rattle.steps.specs.Replies.{Left, Listed}
 use Rattle.steps.specs.declared.Reply.{Reply}
 use Rattle.host.specs.Replies.{callAnswer, told, listedAnswer}
 use Rattle.host.specs.declared.replies.CallAnswer.{CallAnswer}
 
-pub seen-alone : (reply wanted : Reply) (r : CallAnswer) → reply ≡ wanted → r ≡ callAnswer reply → r ≡ callAnswer wanted
-seen-alone reply wanted r is seen = rw seen (ap callAnswer is)
-
-pub seen-left : (reply : Reply) (memory : List ℕ) (left : Left Reply) (r : CallAnswer) → record { reply = reply; memory = memory } ≡ left → r ≡ callAnswer reply → record { reply = r; memory = memory } ≡ told callAnswer left
-seen-left reply memory left r is seen = rw seen (ap (told callAnswer) is)
+pub seen-left : {A B : Type 0} (seen : A → B) (reply : A) (memory : List ℕ) (left : Left A) (r : B) → record { reply = reply; memory = memory } ≡ left → r ≡ seen reply → record { reply = r; memory = memory } ≡ told seen left
+unfolding told
+seen-left seen reply memory left r is so = rw so (ap (told seen) is)
 
 pub seen-listed : (reply : Reply) (area : List ℕ) (listed : Listed) (r : CallAnswer) → record { reply = reply; area = area } ≡ listed → r ≡ callAnswer reply → record { reply = r; area = area } ≡ listedAnswer listed
-seen-listed reply area listed r is seen = rw seen (ap listedAnswer is)
+unfolding listedAnswer
+seen-listed reply area listed r is so = rw so (ap listedAnswer is)
 
 pub seen-both : (reply : Reply) (area memory : List ℕ) (left : Left Listed) (r : CallAnswer) → record { reply = record { reply = reply; area = area }; memory = memory } ≡ left → r ≡ callAnswer reply → record { reply = record { reply = r; area = area }; memory = memory } ≡ told listedAnswer left
-seen-both reply area memory left r is seen = rw seen (ap (told listedAnswer) is)
+seen-both reply area memory left r is so = seen-left listedAnswer (record { reply = reply; area = area }) memory left (record { reply = r; area = area }) is (seen-listed reply area (record { reply = reply; area = area }) r refl so)
 
-pub ruleset seen-so = (seen-alone, seen-left, seen-listed, seen-both)
+pub ruleset seen-so = (seen-left, seen-listed, seen-both)

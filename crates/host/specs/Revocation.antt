@@ -3,5 +3,5 @@ use Rattle.answers.specs.Number.{numberOf}
 use Rattle.notification_calls.specs.declared.QueuesReply.{QueuesReply}
 use Rattle.host.specs.declared.revocation.QueuesAnswer.{QueuesAnswer}
 
-abbrev pub queuesAnswer : QueuesReply → QueuesAnswer
+unfoldable pub queuesAnswer : QueuesReply → QueuesAnswer
 queuesAnswer r = record { answer = numberOf (r .answer); processes = r .processes; notifications = r .notifications }

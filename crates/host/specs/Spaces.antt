@@ -5,9 +5,9 @@ use Rattle.space_calls.specs.declared.StatsReply.{StatsReply}
 use Rattle.host.specs.declared.spaces.EntryAnswer.{EntryAnswer}
 use Rattle.host.specs.declared.spaces.StatsAnswer.{StatsAnswer}
 
-abbrev pub entryAnswer : EntryReply → EntryAnswer
+unfoldable pub entryAnswer : EntryReply → EntryAnswer
 entryAnswer r =
     record { answer = numberOf (r .answer); token = r .token .0; object = r .object; rights = r .rights .0; uses = r .uses; visits = r .visits }
 
-abbrev pub statsAnswer : StatsReply → StatsAnswer
+unfoldable pub statsAnswer : StatsReply → StatsAnswer
 statsAnswer r = record { answer = numberOf (r .answer); hits = r .hits; misses = r .misses; «total_caps» = r .«total_caps» }

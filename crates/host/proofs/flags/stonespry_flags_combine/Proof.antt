@@ -12,9 +12,11 @@ use Rattle.host.proofs.flags.stonespry_flags_combine.Tie as tie
 
 module _ (found wanted : Combined) (told : found ≡ wanted) where
   given : (flags : ℕ) → found ≡ Flags flags → record { answer = 0; flags = flags } ≡ flagsAnswer wanted
+  unfolding flagsAnswer
   given flags is = rw (sym told ∙ is)
 
   refused : (why : Answer) (n : ℕ) → found ≡ Refused why → n ≡ numberOf why → record { answer = n; flags = 0 } ≡ flagsAnswer wanted
+  unfolding flagsAnswer
   refused why n is number = rw (sym told ∙ is, number)
 
 ruleset laws = (needs, given, refused)

@@ -15,9 +15,11 @@ use Rattle.host.proofs.flags.stonespry_flags_has.Tie as tie
 
 module _ (flags : ℕ) (found wanted : Named) (told : found ≡ wanted) where
   given : (perm : CapabilityFlags) (b : Bool) → found ≡ Flag perm → b ≡ hasFlag flags perm → record { answer = 0; has = b } ≡ hasAnswer flags wanted
+  unfolding hasAnswer
   given perm b is has = rw (sym told ∙ is, has)
 
   refused : (why : Answer) (n : ℕ) → found ≡ Refused why → n ≡ numberOf why → record { answer = n; has = false } ≡ hasAnswer flags wanted
+  unfolding hasAnswer
   refused why n is number = rw (sym told ∙ is, number)
 
 ruleset laws = (needs, given, refused)

@@ -1,10 +1,11 @@
 -- `stonespry_epoch` meets its contract: the call's reply, seen so.
 use borrow.Author.Needs.{needs}
-use Rattle.host.specs.RepliesLaws.{seen-so}
+use Rattle.host.specs.Replies.{callAnswer}
+use Rattle.host.specs.KnownLaws.{of-known}
 use Rattle.host.proofs.revocation.stonespry_epoch.Statement.{statement}
 use Rattle.host.proofs.revocation.stonespry_epoch.Tie as tie
 
 pub stonespry-epoch-spec : {M : Type 1} → statement M
 stonespry-epoch-spec =
     tie.close
-    (tie.spec (λ c κs. search needs) (λ c κs. search needs) (λ c. search seen-so))
+    (tie.spec (λ c κs. search needs) (λ c κs. search needs) (λ c. search (of-known callAnswer)))

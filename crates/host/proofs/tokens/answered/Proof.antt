@@ -12,9 +12,11 @@ use Rattle.host.proofs.tokens.answered.Statement.{statement}
 use Rattle.host.proofs.tokens.answered.Tie as tie
 
 given : (made : Made) (token : CapabilityToken) (word : ℕ) → made ≡ Token token → word ≡ token .0 → record { answer = 0; token = word } ≡ tokenAnswer made
+unfolding tokenAnswer
 given made token word is number = rw (is, number)
 
 refused : (made : Made) (why : Answer) (n : ℕ) → made ≡ Refused why → n ≡ numberOf why → record { answer = n; token = 0 } ≡ tokenAnswer made
+unfolding tokenAnswer
 refused made why n is number = rw (is, number)
 
 ruleset laws = (needs, given, refused)

@@ -1,9 +1,11 @@
 -- `stonespry_token_new` meets its contract: what its calls ensure, put together.
 use borrow.Author.Needs.{needs}
+use Rattle.host.specs.Answered.{tokenAnswer}
+use Rattle.host.specs.KnownLaws.{of-known}
 use Rattle.host.proofs.tokens.stonespry_token_new.Statement.{statement}
 use Rattle.host.proofs.tokens.stonespry_token_new.Tie as tie
 
 pub stonespry-token-new-spec : {M : Type 1} → statement M
 stonespry-token-new-spec =
     tie.close
-    (tie.spec (λ c κs. search needs) (λ c κs. search needs) (λ c. cc))
+    (tie.spec (λ c κs. search needs) (λ c κs. search needs) (λ c. search (of-known tokenAnswer)))

@@ -11,6 +11,7 @@ use Rattle.host.proofs.worlds.stonespry_open.Statement.{statement}
 use Rattle.host.proofs.worlds.stonespry_open.Tie as tie
 
 as-number : (answer : Answer) (n : ℕ) (memory : List ℕ) (left : Answered) → record { answer = answer; memory = memory } ≡ left → n ≡ numberOf answer → record { answer = n; memory = memory } ≡ numbered left
+unfolding numbered
 as-number answer n memory left opened number = rw number (ap numbered opened)
 
 ruleset laws = (needs, as-number)
