@@ -75,7 +75,8 @@ module _ (mem : List ℕ) (sound : Sound mem) (x : ℕ) (spent : Spent mem x) wh
   change-spent (revoke token time listed) kept =
       changed (revoke token time listed) (revocation.revoke-steady mem sound (NoneFreed d) (ids-steady d) token time listed)
   change-spent (revoke-capability token time listed) kept =
-      changed (revoke-capability token time listed) (revocation.revoke-capability-steady mem sound (NoneFreed d) (ids-steady d) token time listed)
+      changed (revoke-capability token time listed)
+      (revocation.revoke-capability-steady mem sound (NoneFreed d) (ids-steady d) token time listed)
   change-spent (revoke-held s token time listed) kept =
       changed (revoke-held s token time listed) (revocation.held-revoke-steady mem sound (NoneFreed d) (ids-steady d) s token time listed)
   change-spent (revoke-batch tokens time listed) kept =

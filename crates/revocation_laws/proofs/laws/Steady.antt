@@ -1,5 +1,5 @@
--- What each step keeps, each call keeps. A relation between a memory and a later one that holds of the steps of revocation, and from step to
--- step, holds of every call that revokes and of every call for notifications: of the calls it need not be proved one by one. Sound.antt
+-- What each step keeps, each call keeps. A relation between a memory and a later one that holds of the steps of revocation, and from step
+-- to step, holds of every call that revokes and of every call for notifications: of the calls it need not be proved one by one. Sound.antt
 -- takes it for soundness, `history` for the ids and for the moves of a space.
 use mathlib.Core.Bool.{not}
 use mathlib.Core.List.{List, [], _∷_}
