@@ -1,9 +1,10 @@
 -- How a call enters: by what the code sees (`enteredSpace`), every call's definition is either its refusal or goes on with the numbers.
 use mathlib.Core.Bool.{Bool, true, false, not}
 use mathlib.Core.List.{List}
-use mathlib.Core.Path.{_≡_, refl, sym, ap, _∙_}
+use mathlib.Core.Path.{_≡_, refl, sym, ap, ap₂, _∙_}
 use Prim.Native.Nat.{ℕ, _<_, _≤_}
 use native.Mathlib.Omega.{arith}
+use borrow.Author.Needs.{needs}
 use borrow.Author.Tests.{ltb-true, lt-ltb, le-ltb}
 use lib.Dec.{ltb}
 use Rattle.answers.specs.declared.Answer.{Answer}
@@ -15,6 +16,7 @@ use Rattle.world.specs.SoundLaws.{sound-exactly}
 use Rattle.world.specs.declared.Numbers.{Numbers}
 use Rattle.steps.specs.Enter.{onWorld, onSpace, enteredWorld, enteredSpace}
 use Rattle.steps.specs.Ready.{Ready}
+use Rattle.steps.specs.Replies.{Left}
 use Rattle.steps.specs.declared.Entered.{Entered}
 use Rattle.steps.specs.declared.Entered.the-variants.{Refused, Good}
 use Rattle.steps.proofs.laws.Ready.{ready-at}
@@ -116,6 +118,31 @@ module _ (mem : List ℕ) (r : Entered) (seen : r ≡ enteredWorld mem) where
 
     pub world-ready : Ready d mem
     world-ready = ready-at d mem world-sound
+
+-- ---- the same, as what a call answers and leaves
+
+module _ (mem : List ℕ) (s : ℕ) (r : Entered) (seen : r ≡ enteredSpace mem s) where
+  module _ {A : Type 0} (refuse : Answer → A) (call : Numbers → A) (out : A) where
+    pub refuses : (a : Answer) → r ≡ Refused a → out ≡ refuse a → out ≡ onSpace refuse mem s call
+    refuses a is told = told ∙ sym (space-refusal mem s r seen refuse call a is)
+
+    pub makes : (d : Numbers) → r ≡ Good d → out ≡ call d → out ≡ onSpace refuse mem s call
+    makes d is told = told ∙ sym (space-call mem s r seen d is refuse call)
+
+  pub entered-ready : (d : Numbers) → r ≡ Good d → Ready d mem
+  entered-ready d is = space-ready mem s r seen d is .0
+
+  pub entered-there : (d : Numbers) → r ≡ Good d → s < d .spaces
+  entered-there d is = space-ready mem s r seen d is .1
+
+-- An answer with the memory that the call leaves, by its two parts.
+pub left-both :
+    {A : Type 0} (r r′ : A) (m m′ : List ℕ) → r ≡ r′ → m ≡ m′
+    → _≡_ {A = Left A} (record { reply = r; memory = m }) (record { reply = r′; memory = m′ })
+left-both r r′ m m′ same kept = ap₂ (λ r m. record { reply = r; memory = m }) same kept
+
+-- What every call of a space asks and answers once it was entered.
+pub ruleset enters = (needs, refuses, makes, entered-ready, entered-there, left-both)
 
 -- ---- the code's own ways
 

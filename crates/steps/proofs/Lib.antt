@@ -2,7 +2,7 @@
 pub mod laws
 pub mod Entering
 pub mod Lending
-pub mod Entries
+pub mod ChangingEntries
 pub mod TakingIds
 pub mod Copying
 pub mod Leaving

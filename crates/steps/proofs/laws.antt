@@ -1,6 +1,6 @@
 -- Laws of the steps, from the definitions alone: taking an id and every step on the registry or on a space keep a sound memory sound.
 pub mod Ready
-pub mod Entries
+pub mod HasEntry
 pub mod EntriesChanged
 pub mod SpaceChanged
 pub mod Kept

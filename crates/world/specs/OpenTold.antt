@@ -16,7 +16,7 @@ use Rattle.world.specs.declared.Numbers.{Numbers}
 
 module _ (d : Numbers) (quotas mem : List ℕ) where
   -- What holds of each of the three ways holds of the opening.
-  opening-by-cases :
+  pub opening-by-cases :
       (P : Answered → Type 0) → (¬ Good d quotas → P (record { answer = BadField; memory = mem }))
       → (Good d quotas → length mem < lengthFor d → P (record { answer = BadWorld; memory = mem }))
       → (Good d quotas → lengthFor d ≤ length mem → P (record { answer = Done; memory = opened d quotas mem }))

@@ -21,7 +21,7 @@ use Rattle.steps.specs.Enter.{onSpace}
 use Rattle.steps.specs.Steps.{spaceOf, isEntry, insertStep, removeStep, takenId, takeStep, newEntry}
 use Rattle.steps.specs.declared.Taken.{Taken}
 use Rattle.steps.specs.declared.Taken.the-variants.{Id, Exhausted}
-use Rattle.steps.proofs.Entries.{insert-refused, remove-absent}
+use Rattle.steps.proofs.ChangingEntries.{insert-refused, remove-absent}
 use Rattle.steps.proofs.laws.TakeStep.{take-by-cases, taken-free}
 use Rattle.table.specs.Walk.{gotAt}
 use Rattle.table.specs.declared.CapabilityEntry.{CapabilityEntry}

@@ -1,13 +1,13 @@
--- A choice by cases: what holds of either way holds of the choice. And an answer that is given exactly in its case.
+-- A choice by cases: what holds of either way holds of the choice. A chain of choices, link by link. And an answer that is given exactly in its case.
 use mathlib.Core.Bool.{Bool, true, false, not}
 use mathlib.Core.Logic.{_↔_, _≢_}
-use mathlib.Core.Path.{_≡_, refl, ap}
+use mathlib.Core.Path.{_≡_, refl, sym, ap, _∙_}
 use Prim.Native.Nat.{ℕ, _≤_, _<_}
 use borrow.Author.Tests.{ltb-true, ltb-false, not-true, not-false}
 use lib.Dec.{ltb}
 use Rattle.answers.specs.Number.{numberOf}
 use Rattle.answers.specs.declared.Answer.{Answer}
-use Rattle.base.specs.Choose.{pick, when}
+use Rattle.base.specs.Choose.{pick, when, when-yes, when-no}
 
 module _ {A : Type 0} (P : A → Type 0) (a rest : A) where
   pub pick-by-cases : (b : Bool) → (b ≡ true → P a) → (b ≡ false → P rest) → P (pick b a rest)
@@ -24,6 +24,14 @@ module _ {A : Type 0} (P : A → Type 0) (a rest : A) where
       when-by-cases (not (ltb k n))
       (λ e. over (ltb-false k n (not-true (ltb k n) e)))
       (λ e. under (ltb-true k n (not-false (ltb k n) e)))
+
+-- One link of a chain of choices, as code goes through it: a test that holds ends the chain, one that does not goes on.
+module _ {A : Type 0} (b : Bool) (this rest out : A) where
+  pub when-ends : b ≡ true → out ≡ this → out ≡ when b this rest
+  when-ends test is = is ∙ sym (when-yes b this rest test)
+
+  pub when-goes-on : b ≡ false → out ≡ rest → out ≡ when b this rest
+  when-goes-on test is = is ∙ sym (when-no b this rest test)
 
 -- What is stated where a test holds, and where it does not.
 abbrev pub stated : Bool → Type 0 → Type 0 → Type 0

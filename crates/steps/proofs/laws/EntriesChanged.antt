@@ -33,7 +33,7 @@ use Rattle.space.proofs.laws.Insert.{done-accepts, refused-changes-nothing}
 use Rattle.space.proofs.laws.Kept.{fits}
 use Rattle.space.proofs.laws.View.{View, view, view-next}
 use Rattle.world.specs.Sound.{entryOf, hasEntry}
-use Rattle.steps.proofs.laws.Entries.{has-entry, no-entry, same-entry, same-held}
+use Rattle.steps.proofs.laws.HasEntry.{has-entry, no-entry, same-entry, same-held}
 
 -- Where each entry is f of what it was, and f keeps the id.
 mapped :

@@ -5,7 +5,7 @@ use mathlib.Core.Logic.{_≢_, by-cases}
 use mathlib.Core.Bool.{Bool, true, false}
 use mathlib.Core.List.{List}
 use Prim.Native.Nat.{ℕ, _+_, _-_, _*_, _%_, _^_, _≤_, _<_}
-use native.Mathlib.Decide.{ℕ-discrete, decLt}
+use native.Mathlib.Decide.{ℕ-discrete}
 use native.Mathlib.Omega.{arith}
 use lib.Dec.{eqb}
 use lib.ListN.{length, getD, set, length-set}
@@ -29,16 +29,17 @@ use Rattle.table.specs.Slots.{idOf}
 use Rattle.table.specs.declared.CapabilityEntry.{CapabilityEntry}
 use Rattle.world.specs.Numbers.{nextOf, registeredOf, recycledOf}
 use Rattle.world.specs.Regions.{space, registry, view, onRegion}
+use Rattle.world.specs.Sound.{recycled}
 use Rattle.world.specs.Views.{Change, length-kept, view-same, view-other, head-kept, registry-words}
 use Rattle.world.specs.declared.Numbers.{Numbers}
 use Rattle.steps.specs.Ready.{Ready}
 use Rattle.steps.specs.Steps.{spaceOf, isEntry, lookupStep, nextStep, holdStep, releaseStep, holdAllStep, releaseAllStep, insertStep, removeStep, clearStep, copyStep, takenId, takeStep, registerStep, listStep, unregisterStep, recycleStep, collectStep, addStep}
 use Rattle.steps.specs.declared.Taken.{Taken}
-use Rattle.steps.specs.declared.Taken.the-variants.{Id}
-use Rattle.steps.proofs.Entries.{still-fits}
-use Rattle.steps.proofs.TakingIds.{takes-recycled, takes-next, takes-none}
+use Rattle.steps.specs.declared.Taken.the-variants.{Id, Exhausted}
+use Rattle.steps.proofs.ChangingEntries.{still-fits}
 use Rattle.steps.proofs.laws.Kept.{set-view}
 use Rattle.steps.proofs.laws.SpaceChanged.{other-space}
+use Rattle.steps.proofs.laws.TakeStep.{take-by-cases}
 
 -- The memory is ready, and the words of the head are as they were.
 pub record Stays (d : Numbers) (mem after : List ℕ) : Type 0 where
@@ -237,38 +238,36 @@ module _ (d : Numbers) (mem : List ℕ) (ready : Ready d mem) where
   long : 5 * d .places + 1 ≤ length rg
   long = registry-words d mem (ready .fits .long-enough)
 
-  again-taken : 0 < m → Takes d mem (takenId d mem) (takeStep d mem)
+  again-taken : 0 < m → Takes d mem (Id (recycled d mem 0)) (set (onRegion d registry (firstTaken (d .places) m) mem) 12 (m - 1))
   again-taken some =
       let leaves =
       registry-and-word-leaves d mem ready (firstTaken (d .places) m) (length-taken (d .places) m rg some (ready .recycled-fit) long)
       12 (m - 1) (omega arith) (λ e. omega arith) (λ e. omega (arith, ready .recycled-fit)) in
-      let (steps, takes) = takes-recycled d mem _ _ some refl refl in
-      rw (← steps, ← takes) (record {
+      record {
         ready = leaves .ready;
         others = λ j l not-next not-recycled. leaves .others j l not-recycled;
         room = λ id is. omega (arith, leaves .word, ready .recycled-fit);
-      })
+      }
 
-  next-taken : m ≤ 0 → nextOf mem < 2 ^ 48 → Takes d mem (takenId d mem) (takeStep d mem)
+  next-taken : m ≤ 0 → nextOf mem < 2 ^ 48 → Takes d mem (Id (nextOf mem)) (set mem 5 (nextOf mem + 1))
   next-taken none more =
       let leaves =
       word-leaves d mem ready 5 (nextOf mem + 1) (omega arith) (λ e. omega arith) (λ e. omega arith) in
-      let (steps, takes) = takes-next d mem none more in
-      rw (← steps, ← takes) (record {
+      record {
         ready = leaves .ready;
         others = λ j l not-next not-recycled. leaves .others j l not-next;
         room = λ id is. omega (arith, leaves .others 12 (omega arith) (λ e. omega arith));
-      })
+      }
 
-  none-taken : m ≤ 0 → 2 ^ 48 ≤ nextOf mem → Takes d mem (takenId d mem) (takeStep d mem)
-  none-taken none over =
-      let (steps, takes) = takes-none d mem none over in
-      rw (← steps, ← takes) (record { ready = ready; others = λ j l not-next not-recycled. refl; room = λ id is. omega arith })
+  none-taken : Takes d mem Exhausted mem
+  none-taken = record {
+    ready = ready;
+    others = λ j l not-next not-recycled. refl;
+    room = λ id is. let z : _≡_ {A = ℕ} 0 1 = cc in absurd (omega arith);
+  }
 
   pub take-leaves : Takes d mem (takenId d mem) (takeStep d mem)
-  take-leaves =
-      by-cases (decLt 0 m) again-taken
-      (λ none. by-cases (decLt (nextOf mem) (2 ^ 48)) (next-taken (omega arith)) (λ over. none-taken (omega arith) (omega arith)))
+  take-leaves = take-by-cases d mem (Takes d mem) again-taken next-taken none-taken
 
   pub ready-take : Ready d (takeStep d mem)
   ready-take = take-leaves .ready

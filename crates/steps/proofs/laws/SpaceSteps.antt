@@ -36,7 +36,7 @@ use Rattle.world.specs.Views.{Change, length-kept, changed-twice, registry-word
 use Rattle.world.specs.declared.Numbers.{Numbers}
 use Rattle.steps.specs.Steps.{isEntry, lookupStep, nextStep, holdStep, releaseStep, holdAllStep, releaseAllStep, insertStep, removeStep, clearStep, copyStep}
 use Rattle.steps.proofs.laws.Ready.{space-of}
-use Rattle.steps.proofs.laws.Entries.{count-entries}
+use Rattle.steps.proofs.laws.HasEntry.{count-entries}
 use Rattle.steps.proofs.laws.EntriesChanged.{counted-entries, next-entries, cleared-entries, copied-entries, inserted-entries, refused-entries, removed-entries, missed-entries}
 use Rattle.steps.proofs.laws.Kept.{Kept}
 use Rattle.steps.proofs.laws.Stepped.{space-change, step-kept}

@@ -2,7 +2,7 @@
 use mathlib.Core.Path.{sym}
 use borrow.Author.Needs.{needs}
 use lib.Seq.{length-take-le}
-use Rattle.steps.proofs.Entries.{still-fits, clear-done}
+use Rattle.steps.proofs.ChangingEntries.{still-fits, clear-done}
 use Rattle.steps.proofs.spaces.clear.Statement.{statement}
 use Rattle.steps.proofs.spaces.clear.Tie as tie
 

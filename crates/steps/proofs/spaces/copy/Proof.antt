@@ -3,7 +3,7 @@ use mathlib.Core.Path.{sym}
 use borrow.Author.Needs.{needs}
 use lib.Seq.{length-take-le}
 use Rattle.steps.proofs.Copying.{copied-answer}
-use Rattle.steps.proofs.Entries.{still-fits, copy-done}
+use Rattle.steps.proofs.ChangingEntries.{still-fits, copy-done}
 use Rattle.steps.proofs.spaces.copy.Statement.{statement}
 use Rattle.steps.proofs.spaces.copy.Tie as tie
 

@@ -1,13 +1,8 @@
 -- The space is lent to `space::get_entry`.
 use borrow.Author.Needs.{needs}
-use Rattle.steps.proofs.Lending.{lent-space, lent-in-range}
+use Rattle.steps.proofs.Lending.{lent-space, lends}
 use Rattle.steps.proofs.spaces.get_entry.Statement.{statement}
 use Rattle.steps.proofs.spaces.get_entry.Tie as tie
-
-get-entry-requires : tie.Need-get-entry-requires
-get-entry-requires c κs =
-    let start = c .before .before .before .before in
-    lent-in-range _ _ _ _ _ (c .before .before .space-at .ensures) (c .before .width .ensures) (start .pre .0) (start .pre .1)
 
 returns : tie.Need-returns
 returns c =
@@ -17,4 +12,4 @@ returns c =
 pub get-entry-spec : {M : Type 1} → statement M
 get-entry-spec =
     tie.close
-    (tie.spec (λ c κs. search needs) (λ c κs. search needs) (λ c. search needs) (λ c. search needs) (λ c. search needs) (λ c. search needs) (λ c. search needs) get-entry-requires returns)
+    (tie.spec (λ c κs. search needs) (λ c κs. search needs) (λ c. search needs) (λ c. search needs) (λ c. search needs) (λ c. search needs) (λ c. search needs) (λ c κs. search lends) returns)

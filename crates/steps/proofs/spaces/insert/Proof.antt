@@ -1,6 +1,6 @@
 -- An entry that is answered 0 was accepted, and is held.
 use borrow.Author.Needs.{needs}
-use Rattle.steps.proofs.Entries.{still-fits, insert-accepted, insert-refused}
+use Rattle.steps.proofs.ChangingEntries.{still-fits, insert-accepted, insert-refused}
 use Rattle.steps.proofs.spaces.insert.Statement.{statement}
 use Rattle.steps.proofs.spaces.insert.Tie as tie
 

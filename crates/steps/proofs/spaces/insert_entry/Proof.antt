@@ -2,14 +2,9 @@
 use borrow.Author.Needs.{needs}
 use mathlib.Core.Path.{ap, _∙_}
 use Rattle.space.specs.Change.{InsertOut, insertOut}
-use Rattle.steps.proofs.Lending.{lent-space, lent-in-range, space-back}
+use Rattle.steps.proofs.Lending.{lent-space, space-back, lends}
 use Rattle.steps.proofs.spaces.insert_entry.Statement.{statement}
 use Rattle.steps.proofs.spaces.insert_entry.Tie as tie
-
-insert-requires : tie.Need-insert-requires
-insert-requires c κs =
-    let start = c .before .before .before .before in
-    lent-in-range _ _ _ _ _ (c .before .before .space-at .ensures) (c .before .width .ensures) (start .pre .0) (start .pre .1)
 
 returns : tie.Need-returns
 returns c =
@@ -29,4 +24,4 @@ returns c =
 pub insert-entry-spec : {M : Type 1} → statement M
 insert-entry-spec =
     tie.close
-    (tie.spec (λ c κs. search needs) (λ c κs. search needs) (λ c. search needs) (λ c. search needs) (λ c. search needs) (λ c. search needs) (λ c. search needs) insert-requires (λ c. search needs) returns)
+    (tie.spec (λ c κs. search needs) (λ c κs. search needs) (λ c. search needs) (λ c. search needs) (λ c. search needs) (λ c. search needs) (λ c. search needs) (λ c κs. search lends) (λ c. search needs) returns)

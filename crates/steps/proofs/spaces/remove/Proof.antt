@@ -3,7 +3,7 @@ use mathlib.Core.Path.{ap}
 use borrow.Author.Needs.{needs}
 use Rattle.space.specs.declared.LookedUp.{LookedUp}
 use Rattle.steps.specs.Steps.{isEntry}
-use Rattle.steps.proofs.Entries.{still-fits, remove-found, remove-absent}
+use Rattle.steps.proofs.ChangingEntries.{still-fits, remove-found, remove-absent}
 use Rattle.steps.proofs.spaces.remove.Statement.{statement}
 use Rattle.steps.proofs.spaces.remove.Tie as tie
 
