@@ -1,2 +1,3 @@
 -- What the proofs of `request` share.
+pub mod Chosen
 pub mod laws

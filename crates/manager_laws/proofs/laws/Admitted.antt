@@ -14,7 +14,7 @@ use Rattle.space.specs.Lookup.{searchId}
 use Rattle.space.proofs.laws.Insert.{Accepts, insert-by-cases, refused-changes-nothing}
 use Rattle.steps.specs.Replies.{replied, refuse}
 use Rattle.steps.specs.Steps.{spaceOf, newEntry, insertStep, unregisterStep, recycleStep, addStep}
-use Rattle.steps.proofs.Entries.{insert-refused}
+use Rattle.steps.proofs.ChangingEntries.{insert-refused}
 use Rattle.table.specs.Slots.{idOf}
 use Rattle.table.specs.declared.CapabilityEntry.{CapabilityEntry}
 use Rattle.table.specs.declared.Found.the-variants.{At, Absent}
