@@ -11,6 +11,7 @@ use Rattle.space.specs.Lookup.{lookedUp, gotEntry}
 use Rattle.space.specs.Words.{generationOf, tableOf, slotWords}
 use Rattle.steps.specs.Enter.{onWorld, onSpace}
 use Rattle.steps.specs.Steps.{spaceOf, factsOf, newEntry, lookupStep, nextStep, insertStep, removeStep, clearStep, copyStep, copiedOf, takenId, takeStep}
+use Rattle.steps.specs.declared.Facts.{Facts}
 use Rattle.steps.specs.declared.Taken.{Taken}
 use Rattle.steps.specs.declared.Taken.the-variants.{Id, Exhausted}
 use Rattle.table.specs.Copy.{nthOf}
@@ -21,30 +22,37 @@ use Rattle.token.specs.declared.capability.Made.{Made}
 use Rattle.token.specs.declared.capability.Made.the-variants.{Token, Refused}
 use Rattle.world.specs.declared.Numbers.{Numbers}
 use Rattle.steps.specs.Replies.{Left, replied, done, refusal, refuse}
-use Rattle.space_calls.specs.Replies.{rightsReply, objectReply, goneReply, heldReply, noEntry, entryReply, nthReply, noStats, insertReply}
+use Rattle.space_calls.specs.Replies.{rightsReply, objectReply, goneReply, heldReply, noEntry, entryReply, nthReply, noFacts, insertReply}
 use Rattle.space_calls.specs.declared.EntryReply.{EntryReply}
+use Rattle.space_calls.specs.declared.FactsReply.{FactsReply}
 use Rattle.steps.specs.declared.Reply.{Reply}
 use Rattle.space_calls.specs.declared.StatsReply.{StatsReply}
 
 -- ---- what a space says of itself
 
-unfoldable pub usedOut : List ℕ → ℕ → Reply
-usedOut mem s = onSpace refusal mem s (λ d. done (factsOf (spaceOf d s mem) .used))
+-- All of it, zeros on a refusal; each call answers its part.
+unfoldable pub factsOut : List ℕ → ℕ → FactsReply
+factsOut mem s = onSpace noFacts mem s (λ d. record { answer = Done; facts = factsOf (spaceOf d s mem) })
 
-unfoldable pub quotaOut : List ℕ → ℕ → Reply
-quotaOut mem s = onSpace refusal mem s (λ d. done (factsOf (spaceOf d s mem) .quota))
+abbrev pub factOut : (Facts → ℕ) → List ℕ → ℕ → Reply
+factOut fact mem s = replied (factsOut mem s .answer) (fact (factsOut mem s .facts)) 0
 
-unfoldable pub capacityOut : List ℕ → ℕ → Reply
-capacityOut mem s = onSpace refusal mem s (λ d. done (factsOf (spaceOf d s mem) .slots))
+abbrev pub usedOut : List ℕ → ℕ → Reply
+usedOut mem s = factOut (λ f. f .used) mem s
 
-unfoldable pub generationOut : List ℕ → ℕ → Reply
-generationOut mem s = onSpace refusal mem s (λ d. done (factsOf (spaceOf d s mem) .generation))
+abbrev pub quotaOut : List ℕ → ℕ → Reply
+quotaOut mem s = factOut (λ f. f .quota) mem s
 
-unfoldable pub statsOut : List ℕ → ℕ → StatsReply
+abbrev pub capacityOut : List ℕ → ℕ → Reply
+capacityOut mem s = factOut (λ f. f .slots) mem s
+
+abbrev pub generationOut : List ℕ → ℕ → Reply
+generationOut mem s = factOut (λ f. f .generation) mem s
+
+abbrev pub statsOut : List ℕ → ℕ → StatsReply
 statsOut mem s =
-    onSpace noStats mem s (λ d.
-    let f = factsOf (spaceOf d s mem) in
-    record { answer = Done; hits = f .hits; misses = f .misses; «total_caps» = f .used })
+    let f = factsOut mem s in
+    record { answer = f .answer; hits = f .facts .hits; misses = f .facts .misses; «total_caps» = f .facts .used }
 
 -- ---- finding entries
 

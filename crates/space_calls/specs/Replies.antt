@@ -1,4 +1,4 @@
--- What a call answers for what a step found: the paper's number as the answer, the values, and the added counts. A refusal's values are 0;
+-- What a call answers for what a step found: document 01's answer, the values, and the added counts. A refusal's values are 0;
 -- a search's visits are answered whether it found the entry or not.
 use Prim.Native.Nat.{ℕ}
 use lib.Dec.{eqb}
@@ -17,7 +17,7 @@ use Rattle.token.specs.Rights.{holds}
 use Rattle.steps.specs.Replies.{replied}
 use Rattle.steps.specs.declared.Reply.{Reply}
 use Rattle.space_calls.specs.declared.EntryReply.{EntryReply}
-use Rattle.space_calls.specs.declared.StatsReply.{StatsReply}
+use Rattle.space_calls.specs.declared.FactsReply.{FactsReply}
 
 -- ---- an entry that was looked for: 0 with its value, or 8
 
@@ -58,8 +58,11 @@ abbrev pub nthReply : Nth → EntryReply
 nthReply (nth.Entry e) = wholeEntry e 0
 nthReply nth.Past = noEntry NotFound 0
 
-abbrev pub noStats : Answer → StatsReply
-noStats answer = record { answer = answer; hits = 0; misses = 0; «total_caps» = 0 }
+-- ---- all that a space says of itself
+
+abbrev pub noFacts : Answer → FactsReply
+noFacts answer =
+    record { answer = answer; facts = record { quota = 0; generation = 0; hits = 0; misses = 0; slots = 0; used = 0 } }
 
 -- ---- an insert: its answer and its moves; the value is for an accepted entry alone
 

@@ -26,6 +26,7 @@ pub use facts::used;
 pub use ids::alloc_cap_id;
 pub use ids::create_capability;
 pub use ids::revoke;
+use steps::Facts;
 use token::CapabilityToken;
 use token::Rights;
 
@@ -37,6 +38,12 @@ pub struct EntryReply {
     pub rights: Rights,
     pub uses: u64,
     pub visits: usize,
+}
+
+// All that a space says of itself, zeros on a refusal; calls answer parts of it.
+pub struct FactsReply {
+    pub answer: Answer,
+    pub facts: Facts,
 }
 
 // The statistics of a space, zeros on a refusal.

@@ -1,11 +1,12 @@
 // The answers of the calls, from what the steps found.
 ghost use mathlib.Core.Path.{_≡_};
 ghost use Rattle.steps.specs.Replies.{replied};
-ghost use Rattle.space_calls.specs.Replies.{rightsReply, objectReply, goneReply, heldReply, noEntry, wholeEntry, entryReply, nthReply, noStats};
+ghost use Rattle.space_calls.specs.Replies.{rightsReply, objectReply, goneReply, heldReply, noEntry, wholeEntry, entryReply, nthReply, noFacts};
 use super::EntryReply;
-use super::StatsReply;
+use super::FactsReply;
 use answers::Answer;
 use space::LookedUp;
+use steps::Facts;
 use steps::Reply;
 use table::CapabilityEntry;
 use table::Got;
@@ -127,13 +128,18 @@ pub fn nth_reply(nth: Nth) -> EntryReply
     }
 }
 
-pub fn no_stats(answer: Answer) -> StatsReply
-    ensures { λ r. ⌜ r ≡ noStats answer ⌝ }
+pub fn no_facts(answer: Answer) -> FactsReply
+    ensures { λ r. ⌜ r ≡ noFacts answer ⌝ }
 {
-    StatsReply {
+    FactsReply {
         answer,
-        hits: 0,
-        misses: 0,
-        total_caps: 0,
+        facts: Facts {
+            quota: 0,
+            generation: 0,
+            hits: 0,
+            misses: 0,
+            slots: 0,
+            used: 0,
+        },
     }
 }

@@ -30,11 +30,11 @@ module _ (mem : List ℕ) (sound : Sound mem) where
 
   read-fine : (call : Reading) → answerOf (read call mem) ≢ BadWorld
   unfolding read
-  read-fine (space-used s) = fine s _ (space.used-told mem s)
-  read-fine (space-quota s) = fine s _ (space.quota-told mem s)
-  read-fine (space-table-capacity s) = fine s _ (space.capacity-told mem s)
-  read-fine (space-generation s) = fine s _ (space.generation-told mem s)
-  read-fine (space-stats s) = fine s _ (space.stats-told mem s)
+  read-fine (space-used s) = fine s _ (space.facts-told mem s)
+  read-fine (space-quota s) = fine s _ (space.facts-told mem s)
+  read-fine (space-table-capacity s) = fine s _ (space.facts-told mem s)
+  read-fine (space-generation s) = fine s _ (space.facts-told mem s)
+  read-fine (space-stats s) = fine s _ (space.facts-told mem s)
   read-fine (space-get-entry s id) = fine s _ (space.get-entry-told mem s id)
   read-fine (space-nth-entry s n) = fine s _ (space.nth-entry-told mem s n)
   read-fine (is-valid token) = sure _ (manager.is-valid-entered mem token)

@@ -162,25 +162,28 @@ module _ (mem : List ℕ) (s token : ℕ) (x : CapabilityEntry) (h : Holding mem
       space-by-cases (λ (out : Left A). Holding (out .memory) s token x) _ mem call (λ bad. h) s′ (λ sound far. h)
       (λ sound valid. made valid)
 
-  -- A lookup of another token, or in another space.
-  looked : (s′ token′ : ℕ) → (s ≢ s′) ⊎ (token ≢ token′) → s′ < d .spaces → Holding (lookupStep d s′ token′ mem) s token x
-  looked s′ token′ other valid =
-      stays s′ _ _ x (lookup-step-kept d mem (h .sound) s′ valid token′) (lookup-step d mem (h .sound) s′ valid token′)
+  -- A step with another token, or in another space: it changes the space by f, which answers this token as before.
+  other-kept :
+      (s′ token′ : ℕ) (f : List ℕ → List ℕ) (after : List ℕ) → (s ≢ s′) ⊎ (token ≢ token′) → Kept d mem after
+      → Step d s′ mem after (f (spaceOf d s′ mem)) → (token ≢ token′ → lookedUp (f sp) token .got ≡ lookedUp sp token .got)
+      → Holding after s token x
+  other-kept s′ token′ f after other kept step as-before =
+      stays s′ _ _ x kept step
       (λ same.
-      ap (λ k. lookedUp (counted (spaceOf d k mem) token′) token .got) (sym same)
-      ∙ others-as-before-lookup (d .most) sp of-space token′ token (⊎-elim (λ apart. absurd (apart same)) (λ apart. apart) other)
+      ap (λ k. lookedUp (f (spaceOf d k mem)) token .got) (sym same)
+      ∙ as-before (⊎-elim (λ apart. absurd (apart same)) (λ apart. apart) other)
       ∙ h .found)
       (λ apart. refl)
 
-  -- The removal of another token, or in another space.
+  looked : (s′ token′ : ℕ) → (s ≢ s′) ⊎ (token ≢ token′) → s′ < d .spaces → Holding (lookupStep d s′ token′ mem) s token x
+  looked s′ token′ other valid =
+      other-kept s′ token′ (λ sp. counted sp token′) _ other (lookup-step-kept d mem (h .sound) s′ valid token′)
+      (lookup-step d mem (h .sound) s′ valid token′) (others-as-before-lookup (d .most) sp of-space token′ token)
+
   removed-step : (s′ token′ : ℕ) → (s ≢ s′) ⊎ (token ≢ token′) → s′ < d .spaces → Holding (removeStep d s′ token′ mem) s token x
   removed-step s′ token′ other valid =
-      stays s′ _ _ x (remove-step-kept d mem (h .sound) s′ valid token′) (remove-step d mem (h .sound) s′ valid token′)
-      (λ same.
-      ap (λ k. lookedUp (removedToken (spaceOf d k mem) token′) token .got) (sym same)
-      ∙ others-as-before-remove (d .most) sp of-space token′ token (⊎-elim (λ apart. absurd (apart same)) (λ apart. apart) other)
-      ∙ h .found)
-      (λ apart. refl)
+      other-kept s′ token′ (λ sp. removedToken sp token′) _ other (remove-step-kept d mem (h .sound) s′ valid token′)
+      (remove-step d mem (h .sound) s′ valid token′) (others-as-before-remove (d .most) sp of-space token′ token)
 
   module _ (s′ token′ : ℕ) (other : (s ≢ s′) ⊎ (token ≢ token′)) where
     pub stays-after-lookup : Holding (lookupOut mem s′ token′ .memory) s token x

@@ -1,4 +1,5 @@
--- The calls on a whole space in a user's words: a lookup only counts, a clear leaves nothing, a copy answers as its source did.
+-- The calls on a whole space in a user's words: it says its facts, a lookup only counts, a clear leaves nothing, a copy answers as its
+-- source did.
 use mathlib.Core.Bool.{Bool, true, false, not}
 use mathlib.Core.List.{List}
 use mathlib.Core.Logic.{Iff·rfl}
@@ -27,9 +28,11 @@ use Rattle.table.specs.declared.Got.the-variants.{Nothing}
 use Rattle.world.specs.Numbers.{numbersOf}
 use Rattle.world.specs.Sound.{SoundAt, Sound}
 use Rattle.world.specs.declared.Numbers.{Numbers}
-use Rattle.space_calls.specs.Calls.{usedOut, capacityOut, lookupOut, clearOut, revokeAllOut, copyOut}
-use Rattle.steps.specs.Replies.{Left, refuse, done}
+use Rattle.space_calls.specs.Calls.{factsOut, factOut, usedOut, capacityOut, lookupOut, clearOut, revokeAllOut, copyOut}
+use Rattle.steps.specs.Replies.{Left, replied, refuse, done}
+use Rattle.steps.specs.declared.Facts.{Facts}
 use Rattle.steps.specs.declared.Reply.{Reply}
+use Rattle.space_calls.specs.declared.FactsReply.{FactsReply}
 use Rattle.steps.proofs.laws.Entered.{done-made, space-called}
 use Rattle.steps.proofs.laws.OnlySpace.{lookup-step, next-step, clear-step, copy-step}
 
@@ -61,6 +64,15 @@ module _ (mem : List ℕ) (sound : Sound mem) (s : ℕ) (valid : s < numbersOf m
       → view (spaceOf (numbersOf mem) s (lookupOut mem s token .memory)) ≡ withMisses (up (missesOf sp)) (view sp)
   lookup-counts-a-miss absent = counts ∙ miss-counts (d .most) sp (space-of d mem sound s valid) token absent
 
+-- ---- what a space says of itself
+
+-- A space that is there says its facts.
+pub says-fact :
+    (fact : Facts → ℕ) (mem : List ℕ) (s : ℕ) → Sound mem → s < numbersOf mem .spaces
+    → factOut fact mem s ≡ done (fact (factsOf (spaceOf (numbersOf mem) s mem)))
+unfolding factsOut
+says-fact fact mem s sound there = ap (λ (f : FactsReply). replied (f .answer) (fact (f .facts)) 0) (space-called _ mem _ sound s there)
+
 -- ---- a clear
 
 -- The space is there, has 0 slots, and no token is found in it.
@@ -77,14 +89,14 @@ module _ (mem after : List ℕ) (s : ℕ) (sp : List ℕ) (kept : Kept (numbersO
   emptied :
       spaceOf before s after ≡ sp → tableOf sp .slots ≡ 0 → tableOf sp .full ≡ 0 → ((token : ℕ) → lookedUp sp token .got ≡ Nothing)
       → Empty after s
-  unfolding capacityOut usedOut factsOf
+  unfolding factsOf
   emptied is slots full none =
       let now : spaceOf (numbersOf after) s after ≡ sp = ap (λ (d : Numbers). spaceOf d s after) (kept .numbers) ∙ is in
       let sound = kept-sound mem after kept in
       let there = subst (λ (d : Numbers). s < d .spaces) (sym (kept .numbers)) valid in
       record {
-        no-slots = space-called _ after _ sound s there ∙ ap done (ap (λ sp. tableOf sp .slots) now ∙ slots);
-        none-used = space-called _ after _ sound s there ∙ ap done (ap (λ sp. tableOf sp .full) now ∙ full);
+        no-slots = says-fact (λ f. f .slots) after s sound there ∙ ap done (ap (λ sp. tableOf sp .slots) now ∙ slots);
+        none-used = says-fact (λ f. f .used) after s sound there ∙ ap done (ap (λ sp. tableOf sp .full) now ∙ full);
         none-found = λ token. ap (λ sp. lookedUp sp token .got) now ∙ none token;
       }
 

@@ -31,12 +31,12 @@ use Rattle.token.specs.declared.capability.Made.the-variants.{Token, Refused}
 use Rattle.world.specs.Numbers.{numbersOf}
 use Rattle.world.specs.Sound.{Sound}
 use Rattle.world.specs.declared.Numbers.{Numbers}
-use Rattle.space_calls.specs.Calls.{usedOut, quotaOut, capacityOut, generationOut, statsOut, lookupOut, lookupEntryOut, checkRightsOut, getEntryOut, nthEntryOut, insertCallOut, removeOut, incrementOut, clearOut, revokeAllOut, copyOut, takenReply, allocOut, createMade, createTaken, createOut, revokeMade, revokeOut}
+use Rattle.space_calls.specs.Calls.{factsOut, lookupOut, lookupEntryOut, checkRightsOut, getEntryOut, nthEntryOut, insertCallOut, removeOut, incrementOut, clearOut, revokeAllOut, copyOut, takenReply, allocOut, createMade, createTaken, createOut, revokeMade, revokeOut}
 use Rattle.steps.specs.Replies.{Left, refuse}
 use Rattle.space_calls.specs.Replies.{foundReply, heldReply, noEntry, entryReply, nthReply}
 use Rattle.space_calls.specs.declared.EntryReply.{EntryReply}
 use Rattle.steps.specs.declared.Reply.{Reply}
-use Rattle.space_calls.specs.declared.StatsReply.{StatsReply}
+use Rattle.space_calls.specs.declared.FactsReply.{FactsReply}
 use Rattle.steps.proofs.laws.Entered.{space-by-cases}
 use Rattle.steps.proofs.laws.Told.{Told, Inner, told, world-told, inner, inner-0}
 
@@ -79,25 +79,10 @@ module _ (mem : List ℕ) (s : ℕ) where
   abbrev sp : List ℕ
   sp = spaceOf d s mem
 
-  pub used-told : Told mem s (usedOut mem s .answer)
-  unfolding usedOut
-  used-told = told (λ (r : Reply). r .answer) _ mem _ (λ a. refl) inner-0 s
-
-  pub quota-told : Told mem s (quotaOut mem s .answer)
-  unfolding quotaOut
-  quota-told = told (λ (r : Reply). r .answer) _ mem _ (λ a. refl) inner-0 s
-
-  pub capacity-told : Told mem s (capacityOut mem s .answer)
-  unfolding capacityOut
-  capacity-told = told (λ (r : Reply). r .answer) _ mem _ (λ a. refl) inner-0 s
-
-  pub generation-told : Told mem s (generationOut mem s .answer)
-  unfolding generationOut
-  generation-told = told (λ (r : Reply). r .answer) _ mem _ (λ a. refl) inner-0 s
-
-  pub stats-told : Told mem s (statsOut mem s .answer)
-  unfolding statsOut
-  stats-told = told (λ (r : StatsReply). r .answer) _ mem _ (λ a. refl) inner-0 s
+  -- The answer of the five calls that a space says of itself.
+  pub facts-told : Told mem s (factsOut mem s .answer)
+  unfolding factsOut
+  facts-told = told (λ (r : FactsReply). r .answer) _ mem _ (λ a. refl) inner-0 s
 
   pub lookup-told : (token : ℕ) → Told mem s (lookupOut mem s token .reply .answer)
   unfolding lookupOut

@@ -37,10 +37,10 @@ use Rattle.token.specs.declared.capability.Made.{Made}
 use Rattle.world.specs.Numbers.{numbersOf, nextOf, recycledOf}
 use Rattle.world.specs.Sound.{Sound}
 use Rattle.world.specs.declared.Numbers.{Numbers}
-use Rattle.space_calls.specs.Calls.{usedOut, quotaOut, capacityOut, generationOut, statsOut, lookupOut, lookupEntryOut, checkRightsOut, getEntryOut, nthEntryOut, insertCallOut, removeOut, incrementOut, clearOut, revokeAllOut, copyOut, takenReply, allocOut, createMade, createTaken, createOut, revokeMade, revokeOut}
+use Rattle.space_calls.specs.Calls.{factsOut, lookupOut, lookupEntryOut, checkRightsOut, getEntryOut, nthEntryOut, insertCallOut, removeOut, incrementOut, clearOut, revokeAllOut, copyOut, takenReply, allocOut, createMade, createTaken, createOut, revokeMade, revokeOut}
 use Rattle.space_calls.specs.Replies.{foundReply, heldReply, noEntry, entryReply, nthReply}
 use Rattle.space_calls.specs.declared.EntryReply.{EntryReply}
-use Rattle.space_calls.specs.declared.StatsReply.{StatsReply}
+use Rattle.space_calls.specs.declared.FactsReply.{FactsReply}
 use Rattle.space_laws.proofs.laws.Finding.{HasToken, HasId, token-by-cases, id-by-cases, nth-by-cases}
 use Rattle.space_laws.proofs.laws.Shapes.{On, Taking, told-on, told-0, Finds, finds-it, finds-none, FindsBelow, finds-over, below-it, below-none, Inserts, inserts, Creates, creates-none, creates-of}
 
@@ -68,25 +68,10 @@ module _ (mem : List ℕ) (s : ℕ) where
 
   -- ---- with no refusal of their own
 
-  pub used-told-0 : (usedOut mem s .answer ≡ Done) ↔ (Sound mem × (s < numbersOf mem .spaces))
-  unfolding usedOut
-  used-told-0 = told-0 (λ (r : Reply). r .answer) _ mem _ s (λ a. refl) refl
-
-  pub quota-told-0 : (quotaOut mem s .answer ≡ Done) ↔ (Sound mem × (s < numbersOf mem .spaces))
-  unfolding quotaOut
-  quota-told-0 = told-0 (λ (r : Reply). r .answer) _ mem _ s (λ a. refl) refl
-
-  pub capacity-told-0 : (capacityOut mem s .answer ≡ Done) ↔ (Sound mem × (s < numbersOf mem .spaces))
-  unfolding capacityOut
-  capacity-told-0 = told-0 (λ (r : Reply). r .answer) _ mem _ s (λ a. refl) refl
-
-  pub generation-told-0 : (generationOut mem s .answer ≡ Done) ↔ (Sound mem × (s < numbersOf mem .spaces))
-  unfolding generationOut
-  generation-told-0 = told-0 (λ (r : Reply). r .answer) _ mem _ s (λ a. refl) refl
-
-  pub stats-told-0 : (statsOut mem s .answer ≡ Done) ↔ (Sound mem × (s < numbersOf mem .spaces))
-  unfolding statsOut
-  stats-told-0 = told-0 (λ (r : StatsReply). r .answer) _ mem _ s (λ a. refl) refl
+  -- The five that a space says of itself.
+  pub facts-told-0 : (factsOut mem s .answer ≡ Done) ↔ (Sound mem × (s < numbersOf mem .spaces))
+  unfolding factsOut
+  facts-told-0 = told-0 (λ (r : FactsReply). r .answer) _ mem _ s (λ a. refl) refl
 
   pub check-rights-told-0 :
       (token required : ℕ) → (checkRightsOut mem s token required .reply .answer ≡ Done) ↔ (Sound mem × (s < numbersOf mem .spaces))

@@ -1,5 +1,5 @@
--- A refusal's value is 0: where the answer of a call of a space is not 0, a reply has the value 0, a reply with an entry no entry, and the
--- statistics are zeros. What is added, the visits of a search that found nothing, is answered all the same.
+-- A refusal's value is 0: where the answer of a call of a space is not 0, a reply has the value 0, a reply with an entry no entry, and all that a
+-- space says of itself is zeros. What is added, the visits of a search that found nothing, is answered all the same.
 use mathlib.Core.Bool.{not}
 use mathlib.Core.List.{List}
 use mathlib.Core.Logic.{_≢_}
@@ -32,10 +32,10 @@ use Rattle.token.specs.declared.capability.Made.{Made}
 use Rattle.token.specs.declared.capability.Made.the-variants.{Token, Refused}
 use Rattle.world.specs.Numbers.{numbersOf}
 use Rattle.world.specs.declared.Numbers.{Numbers}
-use Rattle.space_calls.specs.Calls.{usedOut, quotaOut, capacityOut, generationOut, statsOut, lookupOut, lookupEntryOut, checkRightsOut, getEntryOut, nthEntryOut, insertCallOut, removeOut, incrementOut, clearOut, revokeAllOut, copyOut, takenReply, allocOut, createMade, createTaken, createOut, revokeMade, revokeOut}
-use Rattle.space_calls.specs.Replies.{foundReply, heldReply, noEntry, entryReply, nthReply, noStats, insertReply}
+use Rattle.space_calls.specs.Calls.{factsOut, lookupOut, lookupEntryOut, checkRightsOut, getEntryOut, nthEntryOut, insertCallOut, removeOut, incrementOut, clearOut, revokeAllOut, copyOut, takenReply, allocOut, createMade, createTaken, createOut, revokeMade, revokeOut}
+use Rattle.space_calls.specs.Replies.{foundReply, heldReply, noEntry, entryReply, nthReply, noFacts, insertReply}
 use Rattle.space_calls.specs.declared.EntryReply.{EntryReply}
-use Rattle.space_calls.specs.declared.StatsReply.{StatsReply}
+use Rattle.space_calls.specs.declared.FactsReply.{FactsReply}
 
 -- ---- the three kinds of reply
 
@@ -45,8 +45,8 @@ NoValue r = r .answer ≢ Done → r .value ≡ 0
 abbrev pub NoEntry : EntryReply → Type 0
 NoEntry r = r .answer ≢ Done → r ≡ noEntry (r .answer) (r .visits)
 
-abbrev pub NoStats : StatsReply → Type 0
-NoStats r = r .answer ≢ Done → r ≡ noStats (r .answer)
+abbrev pub NoFacts : FactsReply → Type 0
+NoFacts r = r .answer ≢ Done → r ≡ noFacts (r .answer)
 
 -- What holds of every refusal, and of the call where it is made, holds of the call.
 refused-or-made :
@@ -97,25 +97,10 @@ module _ (mem : List ℕ) (s : ℕ) where
   abbrev sp : List ℕ
   sp = spaceOf d s mem
 
-  pub used-value : NoValue (usedOut mem s)
-  unfolding usedOut
-  used-value = refused-or-made NoValue _ mem _ s (λ a not-0. refl) (done-none _)
-
-  pub quota-value : NoValue (quotaOut mem s)
-  unfolding quotaOut
-  quota-value = refused-or-made NoValue _ mem _ s (λ a not-0. refl) (done-none _)
-
-  pub capacity-value : NoValue (capacityOut mem s)
-  unfolding capacityOut
-  capacity-value = refused-or-made NoValue _ mem _ s (λ a not-0. refl) (done-none _)
-
-  pub generation-value : NoValue (generationOut mem s)
-  unfolding generationOut
-  generation-value = refused-or-made NoValue _ mem _ s (λ a not-0. refl) (done-none _)
-
-  pub stats-value : NoStats (statsOut mem s)
-  unfolding statsOut
-  stats-value = refused-or-made NoStats _ mem _ s (λ a not-0. refl) (λ not-0. absurd (not-0 refl))
+  -- The five that a space says of itself are parts of this.
+  pub facts-value : NoFacts (factsOut mem s)
+  unfolding factsOut
+  facts-value = refused-or-made NoFacts _ mem _ s (λ a not-0. refl) (λ not-0. absurd (not-0 refl))
 
   pub lookup-value : (token : ℕ) → NoValue (lookupOut mem s token .reply)
   unfolding lookupOut

@@ -5,20 +5,13 @@ use mathlib.Core.Bool.{not}
 use mathlib.Core.Path.{refl, ap, _∙_}
 use Rattle.answers.specs.declared.Answer.the-variants.{Done}
 use Rattle.base.specs.Choose.{when-yes, when-no}
-use Rattle.steps.proofs.Entering.{space-refusal, space-call, space-ready}
+use Rattle.steps.proofs.Entering.{space-call, enters}
 use Rattle.steps.specs.declared.Copied.{Copied}
 use Rattle.steps.proofs.Leaving.{left-is}
 use Rattle.space_calls.specs.Calls.{copyOut}
 use Rattle.steps.specs.Replies.{replied}
 use Rattle.space_calls.proofs.changes.copy.Statement.{statement}
 use Rattle.space_calls.proofs.changes.copy.Tie as tie
-
-copy-requires : tie.Need-copy-requires
-copy-requires c κs =
-    let tested = c .before in
-    let seen = tested .before .before .before in
-    let (ready, there) = space-ready _ _ _ (seen .before .before .enter-space .ensures) _ (seen .d .given .1) in
-    (ready, there, tested .if1 .left)
 
 returns : tie.Need-returns
 unfolding copyOut
@@ -27,12 +20,6 @@ returns c =
     left-is (c .refusal2 .ensures) refl
     (space-call _ _ _ (seen .before .before .enter-space .ensures) _ (seen .d .given .1) _ _
     ∙ when-yes _ _ _ (ap not (le-ltb _ _ (c .before .if1 .taken))))
-
-returns-2 : tie.Need-returns-2
-unfolding copyOut
-returns-2 c =
-    let seen = c .before .before in
-    left-is (c .refusal .ensures) refl (space-refusal _ _ _ (seen .before .before .enter-space .ensures) _ _ _ (seen .answer .given .1))
 
 returns-3 : tie.Need-returns-3
 unfolding copyOut
@@ -45,4 +32,5 @@ returns-3 c =
     ∙ when-no _ _ _ (ap not (lt-ltb _ _ (tested .if1 .left))))
 
 pub copy-spec : {M : Type 1} → statement M
-copy-spec = tie.close (tie.spec (λ c κs. search needs) (λ c. search needs) (λ c κs. search needs) (λ c. search needs) (λ c κs. search needs) (λ c. search needs) returns copy-requires (λ c. search needs) returns-2 (λ c. search needs) returns-3)
+unfolding copyOut
+copy-spec = tie.close (tie.spec (λ c κs. search needs) (λ c. search needs) (λ c κs. search needs) (λ c. search needs) (λ c κs. search needs) (λ c. search needs) returns (λ c κs. search enters) (λ c. search needs) (λ c. search enters) (λ c. search needs) returns-3)

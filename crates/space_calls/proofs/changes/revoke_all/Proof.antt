@@ -1,7 +1,7 @@
 -- Entered, the space is cleared and its generation goes up.
 use borrow.Author.Needs.{needs}
-use mathlib.Core.Path.{refl, ap, _∙_}
-use Rattle.steps.proofs.Entering.{space-refusal, space-call, space-ready, space-sound}
+use mathlib.Core.Path.{ap, _∙_}
+use Rattle.steps.proofs.Entering.{space-call, space-sound, enters}
 use Rattle.steps.proofs.laws.Kept.{kept-ready}
 use Rattle.steps.proofs.laws.SpaceSteps.{clear-step-kept}
 use Rattle.steps.specs.Steps.{nextStep}
@@ -10,21 +10,12 @@ use Rattle.space_calls.specs.Calls.{revokeAllOut}
 use Rattle.space_calls.proofs.changes.revoke_all.Statement.{statement}
 use Rattle.space_calls.proofs.changes.revoke_all.Tie as tie
 
-clear-requires : tie.Need-clear-requires
-clear-requires c κs = space-ready _ _ _ (c .before .before .before .before .enter-space .ensures) _ (c .before .before .d .given .1)
-
 next-generation-requires : tie.Need-next-generation-requires
 next-generation-requires c κs =
     let call = c .before .before .before in
     let seen = call .before .before .before in
     let (sound, there) = space-sound _ _ _ (seen .before .before .enter-space .ensures) _ (seen .d .given .1) in
     (rw (call .clear .ensures) (kept-ready _ _ _ (clear-step-kept _ _ sound _ there)), there)
-
-returns : tie.Need-returns
-unfolding revokeAllOut
-returns c =
-    let seen = c .before .before in
-    left-is (c .refusal .ensures) refl (space-refusal _ _ _ (seen .before .before .enter-space .ensures) _ _ _ (seen .answer .given .1))
 
 returns-2 : tie.Need-returns-2
 unfolding revokeAllOut
@@ -36,4 +27,5 @@ returns-2 c =
     (space-call _ _ _ (seen .before .before .enter-space .ensures) _ (seen .d .given .1) _ _)
 
 pub revoke-all-spec : {M : Type 1} → statement M
-revoke-all-spec = tie.close (tie.spec (λ c κs. search needs) (λ c. search needs) (λ c κs. search needs) (λ c. search needs) clear-requires next-generation-requires (λ c κs. search needs) (λ c. search needs) returns (λ c. search needs) returns-2)
+unfolding revokeAllOut
+revoke-all-spec = tie.close (tie.spec (λ c κs. search needs) (λ c. search needs) (λ c κs. search needs) (λ c. search needs) (λ c κs. search enters) next-generation-requires (λ c κs. search needs) (λ c. search needs) (λ c. search enters) (λ c. search needs) returns-2)

@@ -4,14 +4,11 @@ use borrow.Author.Tests.{le-leb, lt-leb}
 use mathlib.Core.Path.{sym, ap, _∙_}
 use Rattle.base.specs.Choose.{when-yes, when-no}
 use Rattle.space.specs.declared.LookedUp.{LookedUp}
-use Rattle.steps.proofs.Entering.{space-refusal, space-call, space-ready}
+use Rattle.steps.proofs.Entering.{space-call, enters}
 use Rattle.space_calls.specs.Calls.{getEntryOut}
 use Rattle.space_calls.specs.Replies.{entryReply}
 use Rattle.space_calls.proofs.entries.get_entry.Statement.{statement}
 use Rattle.space_calls.proofs.entries.get_entry.Tie as tie
-
-get-entry-requires : tie.Need-get-entry-requires
-get-entry-requires c κs = space-ready _ _ _ (c .before .before .before .before .enter-space .ensures) _ (c .before .before .d .given .1)
 
 returns : tie.Need-returns
 unfolding getEntryOut
@@ -19,12 +16,6 @@ returns c =
     let seen = c .before .before .before in
     c .no-entry2 .ensures
     ∙ sym (space-call _ _ _ (seen .before .before .enter-space .ensures) _ (seen .d .given .1) _ _ ∙ when-yes _ _ _ (le-leb _ _ (c .before .if1 .taken)))
-
-returns-2 : tie.Need-returns-2
-unfolding getEntryOut
-returns-2 c =
-    let seen = c .before .before in
-    c .no-entry .ensures ∙ sym (space-refusal _ _ _ (seen .before .before .enter-space .ensures) _ _ _ (seen .answer .given .1))
 
 returns-3 : tie.Need-returns-3
 unfolding getEntryOut
@@ -35,4 +26,5 @@ returns-3 c =
     ∙ sym (space-call _ _ _ (seen .before .before .enter-space .ensures) _ (seen .d .given .1) _ _ ∙ when-no _ _ _ (lt-leb _ _ (c .before .before .if1 .left)))
 
 pub get-entry-spec : {M : Type 1} → statement M
-get-entry-spec = tie.close (tie.spec (λ c κs. search needs) (λ c. search needs) (λ c κs. search needs) (λ c. search needs) (λ c κs. search needs) returns get-entry-requires (λ c κs. search needs) returns-2 returns-3)
+unfolding getEntryOut
+get-entry-spec = tie.close (tie.spec (λ c κs. search needs) (λ c. search needs) (λ c κs. search needs) (λ c. search needs) (λ c κs. search needs) returns (λ c κs. search enters) (λ c κs. search needs) (λ c. search enters) returns-3)

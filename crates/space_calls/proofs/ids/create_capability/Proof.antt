@@ -1,7 +1,7 @@
 -- Entered, an id is taken, and a token of it inserted.
 use borrow.Author.Needs.{needs}
-use mathlib.Core.Path.{refl, sym, ap, ap₂, _∙_}
-use Rattle.steps.proofs.Entering.{space-refusal, space-call, space-ready, space-sound}
+use mathlib.Core.Path.{sym, ap, ap₂, _∙_}
+use Rattle.steps.proofs.Entering.{space-call, space-sound, enters}
 use Rattle.steps.proofs.laws.Kept.{kept-ready}
 use Rattle.steps.proofs.laws.TakeStep.{take-step-kept}
 use Rattle.steps.proofs.Leaving.{left-is}
@@ -9,21 +9,12 @@ use Rattle.space_calls.specs.Calls.{createTaken, createOut}
 use Rattle.space_calls.proofs.ids.create_capability.Statement.{statement}
 use Rattle.space_calls.proofs.ids.create_capability.Tie as tie
 
-take-id-requires : tie.Need-take-id-requires
-take-id-requires c κs = space-ready _ _ _ (c .before .before .before .before .enter-space .ensures) _ (c .before .before .d .given .1) .0
-
 create-with-requires : tie.Need-create-with-requires
 create-with-requires c κs =
     let call = c .before .before .before .before .before .before in
     let seen = call .before .before .before in
     let (sound, there) = space-sound _ _ _ (seen .before .before .enter-space .ensures) _ (seen .d .given .1) in
     (rw (call .take-id .ensures .0) (kept-ready _ _ _ (take-step-kept _ _ sound)), there)
-
-returns : tie.Need-returns
-unfolding createOut
-returns c =
-    let seen = c .before .before in
-    left-is (c .refusal .ensures) refl (space-refusal _ _ _ (seen .before .before .enter-space .ensures) _ _ _ (seen .answer .given .1))
 
 returns-2 : tie.Need-returns-2
 unfolding createOut
@@ -49,4 +40,5 @@ returns-3 c =
     ∙ ap (createTaken _ (begun .s) (begun .rights .0) (begun .object) _) (sym (call .take-id .ensures .1) ∙ took .enum-told .given .1))
 
 pub create-capability-spec : {M : Type 1} → statement M
-create-capability-spec = tie.close (tie.spec (λ c κs. search needs) (λ c. search needs) (λ c κs. search needs) (λ c. search needs) take-id-requires (λ c. search needs) create-with-requires (λ c. search needs) (λ c κs. search needs) (λ c. search needs) returns (λ c. search needs) returns-2 (λ c. search needs) returns-3)
+unfolding createOut
+create-capability-spec = tie.close (tie.spec (λ c κs. search needs) (λ c. search needs) (λ c κs. search needs) (λ c. search needs) (λ c κs. search enters) (λ c. search needs) create-with-requires (λ c. search needs) (λ c κs. search needs) (λ c. search needs) (λ c. search enters) (λ c. search needs) returns-2 (λ c. search needs) returns-3)

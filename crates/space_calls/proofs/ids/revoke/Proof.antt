@@ -3,7 +3,7 @@ use borrow.Author.Needs.{needs}
 use denote.Ref.{now}
 use mathlib.Core.Path.{refl, sym, ap, _∙_}
 use Rattle.space.specs.declared.LookedUp.{LookedUp}
-use Rattle.steps.proofs.Entering.{space-refusal, space-call, space-ready}
+use Rattle.steps.proofs.Entering.{space-call, enters}
 use Rattle.steps.specs.Steps.{factsOf}
 use Rattle.steps.specs.declared.Facts.{Facts}
 use Rattle.token.specs.Token.{made}
@@ -12,20 +12,6 @@ use Rattle.space_calls.specs.Calls.{revokeMade, revokeOut}
 use Rattle.space_calls.specs.Replies.{goneReply}
 use Rattle.space_calls.proofs.ids.revoke.Statement.{statement}
 use Rattle.space_calls.proofs.ids.revoke.Tie as tie
-
-facts-requires : tie.Need-facts-requires
-facts-requires c κs = space-ready _ _ _ (c .before .before .before .before .enter-space .ensures) _ (c .before .before .d .given .1)
-
-remove-requires : tie.Need-remove-requires
-remove-requires c κs =
-    let seen = c .before .before .before .before .before .before .before .before in
-    space-ready _ _ _ (seen .before .before .enter-space .ensures) _ (seen .d .given .1)
-
-returns : tie.Need-returns
-unfolding revokeOut
-returns c =
-    let seen = c .before .before in
-    left-is (c .refusal .ensures) refl (space-refusal _ _ _ (seen .before .before .enter-space .ensures) _ _ _ (seen .answer .given .1))
 
 returns-2 : tie.Need-returns-2
 unfolding revokeOut factsOf
@@ -53,4 +39,5 @@ returns-3 c =
     (ap (λ (f : Facts). made (begun .id) (f .generation) 0 0) (sym (makes .before .facts .ensures)) ∙ sym (makes .from-id-and-generation .ensures) ∙ told .answer2 .given .1))
 
 pub revoke-spec : {M : Type 1} → statement M
-revoke-spec = tie.close (tie.spec (λ c κs. search needs) (λ c. search needs) (λ c κs. search needs) (λ c. search needs) facts-requires (λ c κs. search needs) (λ c. search needs) remove-requires (λ c κs. search needs) (λ c. search needs) (λ c κs. search needs) (λ c. search needs) returns (λ c. search needs) returns-2 (λ c. search needs) returns-3)
+unfolding revokeOut
+revoke-spec = tie.close (tie.spec (λ c κs. search needs) (λ c. search needs) (λ c κs. search needs) (λ c. search needs) (λ c κs. search enters) (λ c κs. search needs) (λ c. search needs) (λ c κs. search enters) (λ c κs. search needs) (λ c. search needs) (λ c κs. search needs) (λ c. search needs) (λ c. search enters) (λ c. search needs) returns-2 (λ c. search needs) returns-3)
