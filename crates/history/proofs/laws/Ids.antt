@@ -8,14 +8,12 @@ use Prim.Native.Nat.{ℕ}
 use Rattle.answers.specs.declared.Answer.the-variants.{Done}
 use Rattle.manager_calls.specs.Calls.{deleteOut}
 use Rattle.manager_laws.proofs.laws.Ids as manager
-use Rattle.manager_laws.proofs.laws.Spent.{SpentAt, Spent, NoneFreed, spent-still}
+use Rattle.manager_laws.proofs.laws.Spent.{Spent, NoneFreed}
 use Rattle.revocation_laws.proofs.laws.Steady as revocation
 use Rattle.space_laws.proofs.laws.Elsewhere as space
-use Rattle.steps.proofs.laws.Kept.{Kept}
 use Rattle.token.specs.Token.{idOf}
 use Rattle.world.specs.Numbers.{numbersOf}
 use Rattle.world.specs.Sound.{Sound}
-use Rattle.world.specs.declared.Numbers.{Numbers}
 use Rattle.history.specs.Call.{Accepting, Changing, Call, open-world, reads, accepts, changes}
 use Rattle.history.specs.Call.{space-insert, space-copy, space-create, create, delegate}
 use Rattle.history.specs.Call.{space-lookup, space-lookup-entry, space-check-rights, space-remove, space-increment-generation, space-clear, space-revoke-all, space-revoke, alloc-cap-id, delete, check, revoke, revoke-capability, revoke-held, revoke-batch, notify-process, drain-notifications, cleanup-process-notifications}
@@ -37,13 +35,6 @@ NeverGivenBack x [] mem = Unit {0}
 NeverGivenBack x (call ∷ later) mem = NotGivenBack x call mem × NeverGivenBack x later (perform call mem .memory)
 
 module _ (mem : List ℕ) (sound : Sound mem) (x : ℕ) (spent : Spent mem x) where
-  abbrev d : Numbers
-  d = numbersOf mem
-
-  -- The numbers stay.
-  still : (after : List ℕ) → Kept (numbersOf mem) mem after → NoneFreed (numbersOf mem) mem after → Spent after x
-  still after kept none = subst (λ (d : Numbers). SpentAt d after x) (sym (kept .numbers)) (spent-still d mem after x none spent)
-
   accept-frees-none : (call : Accepting) → NoneFreed (numbersOf mem) mem (accept call mem .memory)
   unfolding accept
   accept-frees-none (space-insert s token object rights fits) = space-frees-none mem s _ (space.insert-only mem s token object rights fits)
@@ -54,7 +45,7 @@ module _ (mem : List ℕ) (sound : Sound mem) (x : ℕ) (spent : Spent mem x) wh
 
   -- A call that frees no id.
   changed : (call : Changing) → NoneFreed (numbersOf mem) mem (change call mem .memory) → Spent (change call mem .memory) x
-  changed call none = still _ (change-kept mem sound call) none
+  changed call none = manager.spent-after mem sound x spent _ (change-kept mem sound call) none
 
   change-spent : (call : Changing) → NotGivenBack x (changes call) mem → Spent (change call mem .memory) x
   unfolding change
@@ -93,7 +84,8 @@ module _ (mem : List ℕ) (sound : Sound mem) (x : ℕ) (spent : Spent mem x) wh
   unfolding perform
   call-spent (open-world d quotas) refused kept = subst (λ after. Spent after x) (sym (opening-refused d quotas mem refused)) spent
   call-spent (reads call) refused kept = spent
-  call-spent (accepts call) refused kept = still _ (accept-kept mem sound call) (accept-frees-none call)
+  call-spent (accepts call) refused kept =
+      manager.spent-after mem sound x spent _ (accept-kept mem sound call) (accept-frees-none call)
   call-spent (changes call) refused kept = change-spent call kept
 
 -- So after every history without these.

@@ -244,7 +244,7 @@ module _ (d : Numbers) (mem : List ℕ) (sound : SoundAt d mem) (id : ℕ) (insi
 
 module _ (mem : List ℕ) (sound : Sound mem) (x : ℕ) (spent : Spent mem x) where
   -- The numbers stay.
-  spent-after : (after : List ℕ) → Kept (numbersOf mem) mem after → NoneFreed (numbersOf mem) mem after → Spent after x
+  pub spent-after : (after : List ℕ) → Kept (numbersOf mem) mem after → NoneFreed (numbersOf mem) mem after → Spent after x
   spent-after after kept none =
       subst (λ (d : Numbers). SpentAt d after x) (sym (kept .numbers)) (spent-still (numbersOf mem) mem after x none spent)
 
