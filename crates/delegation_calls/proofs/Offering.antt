@@ -120,7 +120,8 @@ module _ (d : Numbers) (target p cap-type rights : ℕ) where
         after = lookupStep d target (childToken mem k) mem
 
         place : (opened held : Bool) → Offered → Offered → Offered
-        place opened held passed past = pick opened (pick held (record { held = true; token = childToken mem k; memory = after }) passed) past
+        place opened held passed past =
+            pick opened (pick held (record { held = true; token = childToken mem k; memory = after }) passed) past
 
         none : List ℕ → Offered
         none mem = record { held = false; token = 0; memory = mem }

@@ -67,7 +67,8 @@ offered d target token rights mem =
 abbrev pub derivedWith : Numbers → ℕ → ℕ → ℕ → ℕ → ℕ → List ℕ → Left Reply
 derivedWith d target token rights id p mem =
     let object = objects d mem p in
-    admitted d target id (tokenOf id (typeOf token) rights) object rights delegatedWord (registerStep d id object (suc p) (listStep d p mem))
+    admitted d target id (tokenOf id (typeOf token) rights) object rights delegatedWord
+    (registerStep d id object (suc p) (listStep d p mem))
 
 -- The id was taken: parent unregistered gives 1, revoked or other generation gives 3; then 22.
 abbrev pub derived : Numbers → ℕ → ℕ → ℕ → List ℕ → Taken → Left Reply

@@ -1,5 +1,5 @@
--- What a registered id needs until its entry is in a space: room to recycle it, which steps on the registry and on a space keep; and the two
--- ways of an admission.
+-- What a registered id needs until its entry is in a space: room to recycle it, which steps on the registry and on a space keep; and the
+-- two ways of an admission.
 use mathlib.Core.Bool.{true, false}
 use mathlib.Core.List.{List}
 use mathlib.Core.Path.{_≡_}
@@ -42,7 +42,8 @@ room-registered d mem id object link ready free room =
 
 -- ---- an admission, by the number of the insert's answer
 
-module _ (d : Numbers) (s id token object rights i : ℕ) (mem mid : List ℕ) (inserted : mid ≡ insertStep d s (newEntry token object rights) mem)
+module _ (d : Numbers) (s id token object rights i : ℕ) (mem mid : List ℕ)
+    (inserted : mid ≡ insertStep d s (newEntry token object rights) mem)
     (answer : Answer) (told : answer ≡ insertOut (spaceOf d s mem) (newEntry token object rights) .answer)
     (number : ℕ) (numbered : number ≡ numberOf answer)
   where

@@ -184,7 +184,8 @@ module _ (mem : List ℕ) (token source target rights : ℕ) where
   offer-kept g =
       let before = looked-kept (g .entered) in
       kept-trans d mem _ _ before
-      (offered-kept d target (parentIn d token looked) (typeOf token) (shared g) 0 (registeredOf looked) looked (g .entered .to) (before .sound))
+      (offered-kept d target (parentIn d token looked) (typeOf token) (shared g) 0 (registeredOf looked) looked (g .entered .to)
+      (before .sound))
 
   pub base-kept : (g : Granted) → Kept (numbersOf mem) mem (base g)
   base-kept g = let before = offer-kept g in kept-trans d mem _ _ before (roomed-kept d token (offer g .memory) (before .sound))

@@ -109,7 +109,8 @@ module _ (mem : List ℕ) (sound : Sound mem) (token source target rights : ℕ)
       go (delegate.stale t inside is) = back-kept t
       go (delegate.full g over) = back-kept (g .took)
       go (delegate.refused g room none) =
-          kept-trans numbers mem _ _ (listed-kept g) (undone-kept numbers _ (g .took .id) _ _ (recording mem token source target rights g room))
+          kept-trans numbers mem _ _ (listed-kept g)
+          (undone-kept numbers _ (g .took .id) _ _ (recording mem token source target rights g room))
       go (delegate.accepted g room a) =
           let granted = g .took .asked .granted in
           kept-trans numbers mem _ _ (listed-kept g)

@@ -47,7 +47,8 @@ returns c =
     let tested = c .before .before in
     let seen = tested .before .before .before in
     let (leaves, is) = seen .before .before .before .before .lookup .ensures in
-    left-is (c .refusal2 .ensures) leaves (denied _ _ _ _ _ _ _ is _ (seen .got .given .1) _ (tested .contains .ensures) (c .before .if1 .taken))
+    left-is (c .refusal2 .ensures) leaves
+    (denied _ _ _ _ _ _ _ is _ (seen .got .given .1) _ (tested .contains .ensures) (c .before .if1 .taken))
 
 returns-2 : tie.Need-returns-2
 returns-2 c =

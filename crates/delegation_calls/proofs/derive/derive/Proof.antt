@@ -23,7 +23,8 @@ returns c =
     let call = took .before .before .before .before in
     let begun = call .before .before .before .args in
     derives .derive-taken .ensures
-    ∙ ap₂ (derived (begun .d) (begun .target) (begun .token .0) (begun .rights .0)) (call .take-id .ensures .0) (sym (took .id .given .1) ∙ call .take-id .ensures .1)
+    ∙ ap₂ (derived (begun .d) (begun .target) (begun .token .0) (begun .rights .0)) (call .take-id .ensures .0)
+    (sym (took .id .given .1) ∙ call .take-id .ensures .1)
 
 returns-2 : tie.Need-returns-2
 unfolding withId
@@ -32,7 +33,11 @@ returns-2 c =
     let call = took .before .before .before .before in
     let begun = call .before .before .before .args in
     left-is (c .refusal .ensures) (call .take-id .ensures .0)
-    (ap (derived (begun .d) (begun .target) (begun .token .0) (begun .rights .0) _) (sym (call .take-id .ensures .1) ∙ took .enum-told .given .1))
+    (ap (derived (begun .d) (begun .target) (begun .token .0) (begun .rights .0) _)
+    (sym (call .take-id .ensures .1) ∙ took .enum-told .given .1))
 
 pub derive-spec : {M : Type 1} → statement M
-derive-spec = tie.close (tie.spec (λ c κs. search needs) (λ c. search needs) derive-taken-requires (λ c. search needs) (λ c κs. search needs) (λ c. search needs) returns (λ c. search needs) returns-2)
+derive-spec =
+    tie.close
+    (tie.spec (λ c κs. search needs) (λ c. search needs) derive-taken-requires (λ c. search needs) (λ c κs. search needs)
+    (λ c. search needs) returns (λ c. search needs) returns-2)

@@ -55,4 +55,7 @@ returns c =
     (makes .before .cap-type .ensures) (makes .token-of .ensures) (admits .admit .ensures)
 
 pub derive-with-spec : {M : Type 1} → statement M
-derive-with-spec = tie.close (tie.spec (λ c κs. search needs) (λ c κs. search needs) (λ c. search needs) register-requires (λ c κs. search needs) (λ c κs. search needs) admit-requires (λ c. search needs) returns)
+derive-with-spec =
+    tie.close
+    (tie.spec (λ c κs. search needs) (λ c κs. search needs) (λ c. search needs) register-requires (λ c κs. search needs)
+    (λ c κs. search needs) admit-requires (λ c. search needs) returns)

@@ -66,7 +66,8 @@ returns c =
     let finds = tested .before .before .before in
     derives .derive .ensures
     ∙ sym
-    (few _ _ _ _ _ _ _ _ (finds .before .id .ensures) (finds .place-of .ensures .0) (tested .before .child-count .ensures) (tested .if1 .taken))
+    (few _ _ _ _ _ _ _ _ (finds .before .id .ensures) (finds .place-of .ensures .0) (tested .before .child-count .ensures)
+    (tested .if1 .taken))
 
 returns-2 : tie.Need-returns-2
 returns-2 c =
@@ -75,8 +76,8 @@ returns-2 c =
     let tested = collects .before .before in
     let finds = tested .before .before .before in
     left-is (c .refusal .ensures) refl
-    (still-many _ _ _ _ _ _ _ _ (finds .before .id .ensures) (finds .place-of .ensures .0) (tested .before .child-count .ensures) (tested .if1 .left)
-    _ _ (collects .collect .ensures) (again .before .child-count2 .ensures) (again .if2 .taken))
+    (still-many _ _ _ _ _ _ _ _ (finds .before .id .ensures) (finds .place-of .ensures .0) (tested .before .child-count .ensures)
+    (tested .if1 .left) _ _ (collects .collect .ensures) (again .before .child-count2 .ensures) (again .if2 .taken))
 
 returns-3 : tie.Need-returns-3
 returns-3 c =
@@ -87,8 +88,12 @@ returns-3 c =
     let finds = tested .before .before .before in
     derives .derive2 .ensures
     ∙ sym
-    (fewer _ _ _ _ _ _ _ _ (finds .before .id .ensures) (finds .place-of .ensures .0) (tested .before .child-count .ensures) (tested .if1 .left)
-    _ _ (collects .collect .ensures) (again .before .child-count2 .ensures) (again .if2 .left))
+    (fewer _ _ _ _ _ _ _ _ (finds .before .id .ensures) (finds .place-of .ensures .0) (tested .before .child-count .ensures)
+    (tested .if1 .left) _ _ (collects .collect .ensures) (again .before .child-count2 .ensures) (again .if2 .left))
 
 pub with-room-spec : {M : Type 1} → statement M
-with-room-spec = tie.close (tie.spec (λ c κs. search needs) (λ c κs. search needs) (λ c κs. search needs) (λ c κs. search needs) (λ c. search needs) returns (λ c κs. search needs) child-count-requires-2 (λ c κs. search needs) (λ c. search needs) returns-2 derive-requires-2 (λ c. search needs) returns-3)
+with-room-spec =
+    tie.close
+    (tie.spec (λ c κs. search needs) (λ c κs. search needs) (λ c κs. search needs) (λ c κs. search needs) (λ c. search needs) returns
+    (λ c κs. search needs) child-count-requires-2 (λ c κs. search needs) (λ c. search needs) returns-2 derive-requires-2 (λ c. search needs)
+    returns-3)

@@ -25,4 +25,6 @@ returns c =
     gives .give-back .ensures ∙ ap (λ mem. refuse (recycleStep (begun .d) (begun .id) mem) OutOfMemory) (leaves .unregister .ensures)
 
 pub take-back-spec : {M : Type 1} → statement M
-take-back-spec = tie.close (tie.spec (λ c. search needs) (λ c. search needs) (λ c κs. search needs) give-back-requires (λ c. search needs) returns)
+take-back-spec =
+    tie.close
+    (tie.spec (λ c. search needs) (λ c. search needs) (λ c κs. search needs) give-back-requires (λ c. search needs) returns)

@@ -14,20 +14,24 @@ valid-in-requires c κs = world-ready _ _ (c .before .before .before .enter-worl
 returns : tie.Need-returns
 unfolding isValidOut
 returns c =
+    let seen = c .before .before .before .before in
     c .done .ensures
     ∙ ap (λ b. done (one b)) (sym (c .before .if1 .taken) ∙ c .before .before .valid-in .ensures)
-    ∙ sym (world-call _ _ (c .before .before .before .before .before .before .enter-world .ensures) _ (c .before .before .before .before .d .given .1) _ _)
+    ∙ sym (world-call _ _ (seen .before .before .enter-world .ensures) _ (seen .d .given .1) _ _)
 
 returns-2 : tie.Need-returns-2
 unfolding isValidOut
-returns-2 c = c .refusal .ensures ∙ sym (world-refusal _ _ (c .before .before .before .before .enter-world .ensures) _ _ _ (c .before .before .answer .given .1))
+returns-2 c =
+    let seen = c .before .before in
+    c .refusal .ensures ∙ sym (world-refusal _ _ (seen .before .before .enter-world .ensures) _ _ _ (seen .answer .given .1))
 
 returns-3 : tie.Need-returns-3
 unfolding isValidOut
 returns-3 c =
+    let seen = c .before .before .before .before in
     c .done2 .ensures
     ∙ ap (λ b. done (one b)) (sym (c .before .if1 .left) ∙ c .before .before .valid-in .ensures)
-    ∙ sym (world-call _ _ (c .before .before .before .before .before .before .enter-world .ensures) _ (c .before .before .before .before .d .given .1) _ _)
+    ∙ sym (world-call _ _ (seen .before .before .enter-world .ensures) _ (seen .d .given .1) _ _)
 
 pub is-valid-spec : {M : Type 1} → statement M
 is-valid-spec =

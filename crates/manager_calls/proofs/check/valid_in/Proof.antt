@@ -17,13 +17,16 @@ is-current-requires c κs =
 returns : tie.Need-returns
 returns c =
     let begun = c .before .before .before .before .before .before .args in
-    valid-goes (begun .d) (now (begun .mem)) (begun .token .0) _ _ (c .before .before .before .before .id .ensures) (c .before .before .before .place-of .ensures .0) _
+    let finds = c .before .before .before in
+    valid-goes (begun .d) (now (begun .mem)) (begun .token .0) _ _ (finds .before .id .ensures) (finds .place-of .ensures .0) _
     (c .before .if1 .taken) (c .is-current .ensures)
 
 returns-2 : tie.Need-returns-2
 returns-2 c =
     let begun = c .before .before .before .before .before .args in
-    valid-stops (begun .d) (now (begun .mem)) (begun .token .0) _ _ (c .before .before .before .id .ensures) (c .before .before .place-of .ensures .0) (c .if1 .left)
+    let finds = c .before .before in
+    valid-stops (begun .d) (now (begun .mem)) (begun .token .0) _ _ (finds .before .id .ensures) (finds .place-of .ensures .0)
+    (c .if1 .left)
 
 pub valid-in-spec : {M : Type 1} → statement M
 valid-in-spec =

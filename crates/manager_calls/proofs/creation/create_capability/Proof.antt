@@ -61,7 +61,8 @@ returns-4 c =
     let seen = tested .before .before in
     let begun = seen .before .before .before .before .before .args in
     makes .create-with .ensures
-    ∙ ap₂ (created _ (begun .s) (begun .object) (begun .cap-type) (begun .rights .0)) (call .take-id .ensures .0) (sym (took .id .given .1) ∙ call .take-id .ensures .1)
+    ∙ ap₂ (created _ (begun .s) (begun .object) (begun .cap-type) (begun .rights .0)) (call .take-id .ensures .0)
+    (sym (took .id .given .1) ∙ call .take-id .ensures .1)
     ∙ sym
     (space-call _ _ _ (seen .before .before .enter-space .ensures) _ (seen .d .given .1) _ _
     ∙ when-no _ _ _ (le-ltb _ _ (tested .if1 .left)) ∙ when-no _ _ _ (flagged .if2 .left))
@@ -78,7 +79,13 @@ returns-5 c =
     left-is (c .refusal4 .ensures) (call .take-id .ensures .0)
     (space-call _ _ _ (seen .before .before .enter-space .ensures) _ (seen .d .given .1) _ _
     ∙ when-no _ _ _ (le-ltb _ _ (tested .if1 .left)) ∙ when-no _ _ _ (flagged .if2 .left)
-    ∙ ap (created _ (begun .s) (begun .object) (begun .cap-type) (begun .rights .0) _) (sym (call .take-id .ensures .1) ∙ took .enum-told .given .1))
+    ∙ ap (created _ (begun .s) (begun .object) (begun .cap-type) (begun .rights .0) _)
+    (sym (call .take-id .ensures .1) ∙ took .enum-told .given .1))
 
 pub create-capability-spec : {M : Type 1} → statement M
-create-capability-spec = tie.close (tie.spec (λ c κs. search needs) (λ c. search needs) (λ c κs. search needs) (λ c. search needs) (λ c κs. search needs) (λ c. search needs) returns (λ c κs. search needs) (λ c. search needs) returns-2 take-id-requires (λ c. search needs) create-with-requires (λ c. search needs) (λ c κs. search needs) (λ c. search needs) returns-3 (λ c. search needs) returns-4 (λ c. search needs) returns-5)
+create-capability-spec =
+    tie.close
+    (tie.spec (λ c κs. search needs) (λ c. search needs) (λ c κs. search needs) (λ c. search needs) (λ c κs. search needs)
+    (λ c. search needs) returns (λ c κs. search needs) (λ c. search needs) returns-2 take-id-requires (λ c. search needs)
+    create-with-requires (λ c. search needs) (λ c κs. search needs) (λ c. search needs) returns-3 (λ c. search needs) returns-4
+    (λ c. search needs) returns-5)

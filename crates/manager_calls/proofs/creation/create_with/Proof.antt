@@ -19,7 +19,9 @@ admit-requires c κs =
     rw (registers .register .ensures) (still, there, some, enough, omega arith, omega arith)
 
 returns : tie.Need-returns
-returns c = c .before .before .give-back .ensures ∙ sym (when-yes _ _ _ (ap not (le-ltb _ _ (c .before .before .before .before .if1 .taken))))
+returns c =
+    let gives = c .before .before in
+    gives .give-back .ensures ∙ sym (when-yes _ _ _ (ap not (le-ltb _ _ (gives .before .before .if1 .taken))))
 
 returns-2 : tie.Need-returns-2
 returns-2 c =
@@ -29,8 +31,12 @@ returns-2 c =
     let tested = registers .before .before in
     let begun = tested .before .before .before .before .args in
     admits .admit .ensures
-    ∙ ap₂ (λ token mem. admitted (begun .d) (begun .s) (begun .id) token (begun .object) (begun .rights .0) 7 mem) (makes .token-of .ensures) (registers .register .ensures)
+    ∙ ap₂ (λ token mem. admitted (begun .d) (begun .s) (begun .id) token (begun .object) (begun .rights .0) 7 mem)
+    (makes .token-of .ensures) (registers .register .ensures)
     ∙ sym (when-no _ _ _ (ap not (lt-ltb _ _ (tested .if1 .left))))
 
 pub create-with-spec : {M : Type 1} → statement M
-create-with-spec = tie.close (tie.spec (λ c. search needs) (λ c κs. search needs) (λ c. search needs) returns (λ c κs. search needs) (λ c κs. search needs) admit-requires (λ c. search needs) returns-2)
+create-with-spec =
+    tie.close
+    (tie.spec (λ c. search needs) (λ c κs. search needs) (λ c. search needs) returns (λ c κs. search needs) (λ c κs. search needs)
+    admit-requires (λ c. search needs) returns-2)

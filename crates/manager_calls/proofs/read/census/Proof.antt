@@ -12,14 +12,16 @@ strays-requires c κs = space-ready _ _ _ (c .before .before .before .enter-spac
 
 returns : tie.Need-returns
 unfolding censusOut
-returns c = c .refusal .ensures ∙ sym (space-refusal _ _ _ (c .before .before .before .before .enter-space .ensures) _ _ _ (c .before .before .answer .given .1))
+returns c =
+    let seen = c .before .before in
+    c .refusal .ensures ∙ sym (space-refusal _ _ _ (seen .before .before .enter-space .ensures) _ _ _ (seen .answer .given .1))
 
 returns-2 : tie.Need-returns-2
 unfolding censusOut
 returns-2 c =
-    c .done .ensures
-    ∙ ap done (c .before .strays .ensures)
-    ∙ sym (space-call _ _ _ (c .before .before .before .before .before .enter-space .ensures) _ (c .before .before .before .d .given .1) _ _)
+    let seen = c .before .before .before in
+    c .done .ensures ∙ ap done (c .before .strays .ensures)
+    ∙ sym (space-call _ _ _ (seen .before .before .enter-space .ensures) _ (seen .d .given .1) _ _)
 
 pub census-spec : {M : Type 1} → statement M
 census-spec =

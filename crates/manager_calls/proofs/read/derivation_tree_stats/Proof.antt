@@ -16,7 +16,9 @@ edges-requires c κs = world-ready _ _ (c .before .before .before .before .enter
 
 returns : tie.Need-returns
 unfolding treeStatsOut
-returns c = c .no-tree .ensures ∙ sym (world-refusal _ _ (c .before .before .before .before .enter-world .ensures) _ _ _ (c .before .before .answer .given .1))
+returns c =
+    let seen = c .before .before in
+    c .no-tree .ensures ∙ sym (world-refusal _ _ (seen .before .before .enter-world .ensures) _ _ _ (seen .answer .given .1))
 
 returns-2 : tie.Need-returns-2
 unfolding treeStatsOut

@@ -6,6 +6,7 @@ use native.Mathlib.Omega.{arith}
 use borrow.Author.Tests.{le-leb, lt-leb}
 use lib.Dec.{leb}
 use mathlib.Core.Bool.{true, false, not}
+use mathlib.Core.List.{List}
 use mathlib.Core.Path.{_≡_, refl, ap, _∙_}
 use Rattle.base.specs.Choose.{when-yes, when-no}
 use Rattle.base.specs.Written.{written}
@@ -16,6 +17,7 @@ use Rattle.steps.specs.Replies.{done}
 use Rattle.steps.specs.Steps.{childrenOf}
 use Rattle.world.specs.Numbers.{registeredOf}
 use Rattle.world.specs.Regions.{registry, view}
+use Rattle.world.specs.declared.Numbers.{Numbers}
 use Rattle.manager_calls.specs.Calls.{childrenOut}
 use Rattle.manager_calls.proofs.read.get_children.Statement.{statement}
 use Rattle.manager_calls.proofs.read.get_children.Tie as tie
@@ -28,50 +30,70 @@ long-area : (n m count : ℕ) → count ≡ n → count ≤ m → leb n m ≡ tr
 long-area n m count e l = rw (← e) (le-leb count m l)
 
 place-of-requires : tie.Need-place-of-requires
-place-of-requires c κs = world-ready _ _ (c .before .before .before .before .enter-world .ensures) _ (c .before .before .d .given .1)
+place-of-requires c κs =
+    let seen = c .before .before in
+    world-ready _ _ (seen .before .before .enter-world .ensures) _ (seen .d .given .1)
 
 child-count-requires : tie.Need-child-count-requires
 child-count-requires c κs =
-    let ready = world-ready _ _ (c .before .before .before .before .before .enter-world .ensures) _ (c .before .before .before .d .given .1) in
+    let seen = c .before .before .before in
+    let ready = world-ready _ _ (seen .before .before .enter-world .ensures) _ (seen .d .given .1) in
     (ready, omega (arith, c .place-of .ensures .1, ready .registered-fit))
 
 list-children-requires : tie.Need-list-children-requires
 list-children-requires c κs =
-    let ready = world-ready _ _ (c .before .before .before .before .before .before .before .before .enter-world .ensures) _ (c .before .before .before .before .before .before .d .given .1) in
-    (ready, omega (arith, c .before .before .before .place-of .ensures .1, ready .registered-fit), rw (← c .before .before .child-count .ensures) (c .before .if2 .left))
+    let finds = c .before .before .before in
+    let seen = finds .before .before .before in
+    let ready = world-ready _ _ (seen .before .before .enter-world .ensures) _ (seen .d .given .1) in (
+      ready,
+      omega (arith, finds .place-of .ensures .1, ready .registered-fit),
+      rw (← c .before .before .child-count .ensures) (c .before .if2 .left),
+    )
 
 returns : tie.Need-returns
 unfolding childrenOut
 returns c =
+    let seen = c .before .before .before in
     listed-is (c .refusal2 .ensures) refl
-    (world-call _ _ (c .before .before .before .before .before .enter-world .ensures) _ (c .before .before .before .d .given .1) _ _ ∙ when-yes _ _ _ (le-leb _ _ (c .before .if1 .taken)))
+    (world-call _ _ (seen .before .before .enter-world .ensures) _ (seen .d .given .1) _ _
+    ∙ when-yes _ _ _ (le-leb _ _ (c .before .if1 .taken)))
 
 returns-2 : tie.Need-returns-2
 unfolding childrenOut
 returns-2 c =
-    let begun = c .before .before .before .before .before .before .before .before .before .before .before .args in
-    let counted =
-    c .before .before .child-count .ensures ∙ ap (childrenOf (c .before .before .before .before .before .before .d .given .0 .0) (now (begun .mem))) (c .before .before .before .place-of .ensures .0) in
+    let counts = c .before .before in
+    let finds = counts .before in
+    let seen = finds .before .before .before in
+    let mem : List ℕ = now (seen .before .before .before .before .before .args .mem) in
+    let counted = counts .child-count .ensures ∙ ap (childrenOf (seen .d .given .0 .0) mem) (finds .place-of .ensures .0) in
     listed-is (c .refusal3 .ensures) refl
-    (world-call _ _ (c .before .before .before .before .before .before .before .before .enter-world .ensures) _ (c .before .before .before .before .before .before .d .given .1) _ _
-    ∙ when-no _ _ _ (lt-leb _ _ (c .before .before .before .before .if1 .left))
-    ∙ when-yes _ _ _ (ap not (short-area _ _ _ counted (c .before .if2 .taken))))
+    (world-call _ _ (seen .before .before .enter-world .ensures) _ (seen .d .given .1) _ _
+    ∙ when-no _ _ _ (lt-leb _ _ (finds .before .if1 .left)) ∙ when-yes _ _ _ (ap not (short-area _ _ _ counted (c .before .if2 .taken))))
 
 returns-3 : tie.Need-returns-3
 unfolding childrenOut
-returns-3 c = listed-is (c .refusal .ensures) refl (world-refusal _ _ (c .before .before .before .before .enter-world .ensures) _ _ _ (c .before .before .answer .given .1))
+returns-3 c =
+    let seen = c .before .before in
+    listed-is (c .refusal .ensures) refl (world-refusal _ _ (seen .before .before .enter-world .ensures) _ _ _ (seen .answer .given .1))
 
 returns-4 : tie.Need-returns-4
 unfolding childrenOut
 returns-4 c =
-    let begun = c .before .before .before .before .before .before .before .before .before .before .before .before .before .before .before .args in
-    let place = c .before .before .before .before .before .before .before .place-of .ensures .0 in
-    let counted = c .before .before .before .before .before .before .child-count .ensures ∙ ap (childrenOf (c .before .before .before .before .before .before .before .before .before .before .d .given .0 .0) (now (begun .mem))) place in
+    let lists = c .before .before .before in
+    let tested = lists .before .before in
+    let counts = tested .before in
+    let finds = counts .before in
+    let seen = finds .before .before .before in
+    let begun = seen .before .before .before .before .before .args in
+    let d : Numbers = seen .d .given .0 .0 in
+    let mem : List ℕ = now (begun .mem) in
+    let place = finds .place-of .ensures .0 in
+    let counted = counts .child-count .ensures ∙ ap (childrenOf d mem) place in
     listed-is (c .done .ensures ∙ ap done counted)
-    (c .before .before .before .list-children .ensures ∙ ap (λ p. written (childIds (c .before .before .before .before .before .before .before .before .before .before .d .given .0 .0 .places) p (registeredOf (now (begun .mem))) (view (c .before .before .before .before .before .before .before .before .before .before .d .given .0 .0) registry (now (begun .mem)))) (now (begun .area))) place)
-    (world-call _ _ (c .before .before .before .before .before .before .before .before .before .before .before .before .enter-world .ensures) _ (c .before .before .before .before .before .before .before .before .before .before .d .given .1) _ _
-    ∙ when-no _ _ _ (lt-leb _ _ (c .before .before .before .before .before .before .before .before .if1 .left))
-    ∙ when-no _ _ _ (ap not (long-area _ _ _ counted (c .before .before .before .before .before .if2 .left))))
+    (lists .list-children .ensures
+    ∙ ap (λ p. written (childIds (d .places) p (registeredOf mem) (view d registry mem)) (now (begun .area))) place)
+    (world-call _ _ (seen .before .before .enter-world .ensures) _ (seen .d .given .1) _ _
+    ∙ when-no _ _ _ (lt-leb _ _ (finds .before .if1 .left)) ∙ when-no _ _ _ (ap not (long-area _ _ _ counted (tested .if2 .left))))
 
 pub get-children-spec : {M : Type 1} → statement M
 get-children-spec =

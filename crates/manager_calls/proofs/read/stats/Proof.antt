@@ -8,24 +8,36 @@ use Rattle.manager_calls.proofs.read.stats.Statement.{statement}
 use Rattle.manager_calls.proofs.read.stats.Tie as tie
 
 word-7 : tie.Need-shared-slice-read-t7
-word-7 c = omega (arith, (world-ready _ _ (c .before .before .before .enter-world .ensures) _ (c .before .enum-told .given .1)) .head)
+word-7 c =
+    let seen = c .before in
+    omega (arith, world-ready _ _ (seen .before .before .enter-world .ensures) _ (seen .enum-told .given .1) .head)
 
 word-9 : tie.Need-shared-slice-read-t9
-word-9 c = omega (arith, (world-ready _ _ (c .before .before .before .before .enter-world .ensures) _ (c .before .before .enum-told .given .1)) .head)
+word-9 c =
+    let seen = c .before .before in
+    omega (arith, world-ready _ _ (seen .before .before .enter-world .ensures) _ (seen .enum-told .given .1) .head)
 
 word-11 : tie.Need-shared-slice-read-t11
-word-11 c = omega (arith, (world-ready _ _ (c .before .before .before .before .before .enter-world .ensures) _ (c .before .before .before .enum-told .given .1)) .head)
+word-11 c =
+    let seen = c .before .before .before in
+    omega (arith, world-ready _ _ (seen .before .before .enter-world .ensures) _ (seen .enum-told .given .1) .head)
 
 word-13 : tie.Need-shared-slice-read-t13
-word-13 c = omega (arith, (world-ready _ _ (c .before .before .before .before .before .before .enter-world .ensures) _ (c .before .before .before .before .enum-told .given .1)) .head)
+word-13 c =
+    let seen = c .before .before .before .before in
+    omega (arith, world-ready _ _ (seen .before .before .enter-world .ensures) _ (seen .enum-told .given .1) .head)
 
 returns : tie.Need-returns
 unfolding statsOut
-returns c = c .no-stats .ensures ∙ sym (world-refusal _ _ (c .before .before .before .before .enter-world .ensures) _ _ _ (c .before .before .answer .given .1))
+returns c =
+    let seen = c .before .before in
+    c .no-stats .ensures ∙ sym (world-refusal _ _ (seen .before .before .enter-world .ensures) _ _ _ (seen .answer .given .1))
 
 returns-2 : tie.Need-returns-2
 unfolding statsOut
-returns-2 c = sym (world-call _ _ (c .before .before .before .before .before .before .enter-world .ensures) _ (c .before .before .before .before .enum-told .given .1) _ _)
+returns-2 c =
+    let seen = c .before .before .before .before in
+    sym (world-call _ _ (seen .before .before .enter-world .ensures) _ (seen .enum-told .given .1) _ _)
 
 pub stats-spec : {M : Type 1} → statement M
 stats-spec =

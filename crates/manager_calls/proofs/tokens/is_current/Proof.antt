@@ -12,7 +12,8 @@ returns : tie.Need-returns
 returns c =
     let tested = c .before in
     let state = tested .before .state-at .ensures in
-    both-goes _ _ _ _ (ap (λ s. eqb (s % 2) 0) state) (eq-eqb _ _ (tested .if1 .taken)) (ap₂ (λ g s. eqb g (s % 2)) (c .generation .ensures) state)
+    both-goes _ _ _ _ (ap (λ s. eqb (s % 2) 0) state) (eq-eqb _ _ (tested .if1 .taken))
+    (ap₂ (λ g s. eqb g (s % 2)) (c .generation .ensures) state)
 
 returns-2 : tie.Need-returns-2
 returns-2 c = both-stops _ _ _ (ap (λ s. eqb (s % 2) 0) (c .before .state-at .ensures)) (ne-eqb _ _ (c .if1 .left))
