@@ -6,7 +6,7 @@ use native.Mathlib.Nat.{le-antisymm}
 use native.Mathlib.Numerals.{add-one}
 use native.Mathlib.Omega.{arith}
 use borrow.Author.Count.{below-none, below-more}
-use Rattle.base.specs.Choose.{both, both-left, both-right, both-make, both-swap}
+use Rattle.base.specs.Choose.{both, both-left, both-right, both-make, both-swap, refuted}
 use Rattle.base.specs.Below.{all}
 
 pub all-at : (n : ℕ) (p : ℕ → Bool) → all n p ≡ true → (k : ℕ) → k < n → p k ≡ true
@@ -22,11 +22,7 @@ all-make (suc n) p f = both-make (all n p) (p n) (all-make n p (λ k l. f k (ome
 
 -- One that fails is enough.
 pub all-fails : (n m : ℕ) (p : ℕ → Bool) → n < m → p n ≡ false → all m p ≡ false
-all-fails n m p l h = go (all m p) refl
-  where
-    go : (b : Bool) → all m p ≡ b → all m p ≡ false
-    go true e = absurd (true≢false (sym (all-at m p e n l) ∙ h))
-    go false e = e
+all-fails n m p l h = refuted (all m p) (λ e. true≢false (sym (all-at m p e n l) ∙ h))
 
 pub all-ext : (n : ℕ) (p q : ℕ → Bool) → ((k : ℕ) → k < n → p k ≡ q k) → all n p ≡ all n q
 unfolding all

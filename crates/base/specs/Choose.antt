@@ -55,3 +55,8 @@ both-true false = refl
 pub both-false : (a : Bool) → both a false ≡ false
 both-false true = refl
 both-false false = refl
+
+-- A test that cannot hold is false.
+pub refuted : (b : Bool) → ¬ (b ≡ true) → b ≡ false
+refuted true f = absurd (f refl)
+refuted false f = refl

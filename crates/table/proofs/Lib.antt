@@ -5,4 +5,3 @@ pub mod CodeWalk
 pub mod CodeRebuild
 pub mod CodeInsert
 pub mod CodeCopy
-pub mod CodeTests

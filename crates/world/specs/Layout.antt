@@ -10,7 +10,7 @@ use borrow.Author.Tests.{eq-eqb, eqb-true}
 use lib.Dec.{eqb}
 use Rattle.base.specs.Arith.{nextPower, next-least}
 use Rattle.base.specs.Below.{first, firstFrom}
-use Rattle.base.specs.Choose.{both, both-left, both-right, both-make}
+use Rattle.base.specs.Choose.{both, both-left, both-right, both-make, refuted}
 use Rattle.world.specs.Numbers.{InRange}
 use Rattle.world.specs.Regions.{Region, head, space, registry, log, queue, widthOf, lengthFor, startOf, sizeOf}
 use Rattle.world.specs.declared.Numbers.{Numbers}
@@ -65,11 +65,7 @@ same-is r r′ h =
     sym (region-at r) ∙ ap₂ regionAt e i ∙ region-at r′
 
 pub distinct : (r r′ : Region) → r ≢ r′ → same r r′ ≡ false
-distinct r r′ differ = go (same r r′) refl
-  where
-    go : (b : Bool) → same r r′ ≡ b → same r r′ ≡ false
-    go true e = absurd (differ (same-is r r′ e))
-    go false e = e
+distinct r r′ differ = refuted (same r r′) (λ e. differ (same-is r r′ e))
 
 -- How many parts a band has, and how many words a part.
 parts : Numbers → ℕ → ℕ

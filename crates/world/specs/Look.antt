@@ -13,7 +13,7 @@ use lib.ListN.{length, getD, take}
 use lib.Seq.{length-take-le, getD-take}
 use Rattle.base.specs.AllLaws.{all-more, all-ext}
 use Rattle.base.specs.Below.{all, sum, one}
-use Rattle.base.specs.Choose.{pick, both, both-left, both-right, both-true, both-false}
+use Rattle.base.specs.Choose.{pick, both, both-left, both-right, both-true, both-false, refuted}
 use Rattle.base.specs.Distinct.{allDifferent}
 use Rattle.base.specs.Exactly.{same-test}
 use Rattle.base.specs.Listed.{fold, passing, listed, length-listed, listed-fold}
@@ -143,11 +143,7 @@ one-alone p zero alone = refl
 one-alone p (suc n) alone = go (p n) refl (one-alone p n (λ i j l u. alone i j (omega arith) (omega arith)))
   where
     none : p n ≡ true → (i : ℕ) → i < n → one (p i) ≡ 0
-    none here i l = fails (p i) refl
-      where
-        fails : (b : Bool) → p i ≡ b → one b ≡ 0
-        fails true e = absurd (omega (arith, alone i n (omega arith) (omega arith) e here))
-        fails false e = refl
+    none here i l = ap one (refuted (p i) (λ e. omega (arith, alone i n (omega arith) (omega arith) e here)))
 
     go :
         (b : Bool) → p n ≡ b → sum (λ i. one (p i)) n ≡ one (not (all n (λ i. not (p i))))

@@ -11,7 +11,7 @@ use borrow.Author.Tests.{ltb-true, lt-ltb, le-ltb, eqb-true, eq-eqb, ne-eqb}
 use lib.Dec.{eqb, ltb}
 use lib.ListN.{length}
 use Rattle.base.specs.Below.{one}
-use Rattle.base.specs.Choose.{pick, both, both-left, both-right, both-make}
+use Rattle.base.specs.Choose.{pick, both, both-left, both-right, both-make, refuted}
 use Rattle.base.specs.FirstLaws.{first-passes, first-is, first-none, first-ext}
 use Rattle.base.specs.SumLaws.{sum-update}
 use Rattle.revocation.specs.NoticesLaws.{lastWords, notices-pushed, notices-begun}
@@ -40,11 +40,7 @@ for-is pid qu e = (
 
 -- It is not the queue of another pid.
 for-other : (pid other : ℕ) (qu : List ℕ) → other ≢ pid → (0 < lengthOf qu → pidOf qu ≡ pid) → isFor other qu ≡ false
-for-other pid other qu apart is = go (ltb 0 (lengthOf qu)) refl
-  where
-    go : (b : Bool) → ltb 0 (lengthOf qu) ≡ b → both b (eqb (pidOf qu) other) ≡ false
-    go true e = ne-eqb (pidOf qu) other (λ h. apart (sym h ∙ is (ltb-true 0 (lengthOf qu) e)))
-    go false e = refl
+for-other pid other qu apart is = refuted (isFor other qu) (λ e. let (some, named) = for-is other qu e in apart (sym named ∙ is some))
 
 for-none : (pid : ℕ) (qu : List ℕ) → lengthOf qu ≡ 0 → isFor pid qu ≡ false
 for-none pid qu none = rw none
@@ -64,13 +60,9 @@ module _ (d : Numbers) (mem : List ℕ) where
     queue-is =
         first-is (λ q. isFor pid (view d (queue q) mem)) (d .queues) q l
         (both-make _ _ (lt-ltb 0 (lengths d mem q) some) (eq-eqb (pids d mem q) pid is))
-        (λ k u. before k u (isFor pid (view d (queue k) mem)) refl)
-      where
-        before : (k : ℕ) → k < q → (b : Bool) → isFor pid (view d (queue k) mem) ≡ b → isFor pid (view d (queue k) mem) ≡ false
-        before k u false e = e
-        before k u true e =
-            let (some′, is′) = for-is pid (view d (queue k) mem) e in
-            absurd (sound .pids-differ q l k u some′ some (is′ ∙ sym is))
+        (λ k u.
+        refuted (isFor pid (view d (queue k) mem))
+        (λ e. let (some′, is′) = for-is pid (view d (queue k) mem) e in sound .pids-differ q l k u some′ some (is′ ∙ sym is)))
 
     -- and its notices are the pid's.
     pub notices-are : noticesOf d mem pid ≡ notices (view d (queue q) mem)
@@ -239,10 +231,5 @@ module _ (d : Numbers) (mem : List ℕ) (sound : SoundAt d mem) (pid : ℕ) (l :
           (λ e. rw (e, changed-here d mem sound old l freed (length-freed words-of)) (for-none pid (freed words-of) empty))
           (λ other.
           rw (changed-elsewhere d mem sound old l freed (length-freed words-of) i u other)
-          (go other (isFor pid (view d (queue i) mem)) refl))
-        where
-          go : i ≢ old → (b : Bool) → isFor pid (view d (queue i) mem) ≡ b → isFor pid (view d (queue i) mem) ≡ false
-          go other false e = e
-          go other true e =
-              let (some, is) = for-is pid (view d (queue i) mem) e in
-              absurd (other (sym (queue-is d mem sound pid i u some is)))
+          (refuted (isFor pid (view d (queue i) mem))
+          (λ e. let (some, is) = for-is pid (view d (queue i) mem) e in other (sym (queue-is d mem sound pid i u some is)))))

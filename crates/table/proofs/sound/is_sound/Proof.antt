@@ -7,11 +7,10 @@ use Prim.Native.Nat.{ℕ, _≤_}
 use native.Mathlib.Omega.{arith}
 use borrow.Author.Needs.{needs}
 use borrow.Author.Tests.{not-true, not-false}
-use Rattle.base.specs.Choose.{both, both-left, both-right, both-make}
+use Rattle.base.specs.Choose.{both, both-left, both-right, both-make, refuted}
 use Rattle.table.specs.Insert.{slotsFor}
 use Rattle.table.specs.Sound.{codedTest, capacityTest, countsTest, roomTest, unusedTest, withinTest, foundTest, soundTest}
 use Rattle.table.specs.declared.CapTable.{CapTable}
-use Rattle.table.proofs.CodeTests.{refuted}
 use Rattle.table.proofs.laws.Room.{capacity-le, slots-few}
 use Rattle.table.proofs.laws.Tests.{capacity-exactly, room-exactly, unused-exactly, within-exactly, sound-exactly}
 use Rattle.table.proofs.sound.is_sound.Statement.{statement}
@@ -23,7 +22,7 @@ fit most t = both (roomTest t) (both (unusedTest t) (withinTest most t))
 module _ (most : ℕ) (ws : List ℕ) (t : CapTable) (b : Bool) where
   -- A test that a sound table passes, and this one does not.
   unsound : (test : Bool) → (soundTest most ws t ≡ true → test ≡ true) → b ≡ test → not b ≡ true → false ≡ soundTest most ws t
-  unsound test passes e bad = refuted (soundTest most ws t) (λ h. true≢false (sym (e ∙ passes h) ∙ not-true b bad))
+  unsound test passes e bad = sym (refuted (soundTest most ws t) (λ h. true≢false (sym (e ∙ passes h) ∙ not-true b bad)))
 
   no-capacity : b ≡ capacityTest most (t .slots) → not b ≡ true → false ≡ soundTest most ws t
   no-capacity = unsound (capacityTest most (t .slots)) (λ h. capacity-exactly most (t .slots) .1 (sound-exactly most ws t .0 h .capacity))
