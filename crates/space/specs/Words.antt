@@ -1,10 +1,9 @@
 -- The words of a space: 0 quota, 1 generation, 2 hits, 3 misses, 4 spare, 5 slots, 6 live, 7 removed, and from 8 on the slots of its
 -- table, four words each. `used` and `total_caps` are the word `live` itself, so they cannot differ from the live count.
 use mathlib.Core.List.{List, _++_}
-use Prim.Native.Nat.{ℕ, _+_, _*_, _^_, _≤_, _<_, max}
+use Prim.Native.Nat.{ℕ, _+_, _*_, _^_, _≤_, _<_}
 use lib.ListN.{length, getD, set, take, drop}
-use Rattle.base.specs.Arith.{nextPower}
-use Rattle.table.specs.Insert.{Table}
+use Rattle.table.specs.Insert.{Table, slotsFor}
 use Rattle.table.specs.declared.CapTable.{CapTable}
 
 abbrev pub quotaOf : List ℕ → ℕ
@@ -34,7 +33,7 @@ withTable sp t = withCounts (take 8 sp ++ t .words) (t .counts)
 
 -- How many words a space has where quotas are at most `most`: 8, and 4 for each slot of the largest table.
 abbrev pub wordsFor : ℕ → ℕ
-wordsFor most = 8 + 4 * max 8 (nextPower (2 * most))
+wordsFor most = 8 + 4 * slotsFor most
 
 -- What a call asks of a space's words: ranges, and words for the slots that the table has and for those that its quota allows. Every
 -- sound space has them.

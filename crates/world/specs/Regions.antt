@@ -1,9 +1,9 @@
 -- How the memory is cut: head, S spaces of equal width, registry, log, P queues. What lies past the last region is never read or written.
 use mathlib.Core.List.{List}
 use mathlib.Core.Path.{_≡_}
-use Prim.Native.Nat.{ℕ, zero, suc, _+_, _*_, _≤_, max}
-use Rattle.base.specs.Arith.{nextPower}
+use Prim.Native.Nat.{ℕ, zero, suc, _+_, _*_, _≤_}
 use Rattle.base.specs.Part.{part, onPart}
+use Rattle.space.specs.Words.{wordsFor}
 use Rattle.world.specs.declared.Numbers.{Numbers}
 
 pub data Region : Type 0 where
@@ -13,9 +13,9 @@ pub data Region : Type 0 where
   log : Region
   queue : ℕ → Region
 
--- The most slots that a table can have, and the words of a space: 8 and 4 a slot.
+-- The words of a space, with a table of the most slots that it can have.
 unfoldable pub widthOf : Numbers → ℕ
-widthOf d = 8 + 4 * max 8 (nextPower (2 * d .most))
+widthOf d = wordsFor (d .most)
 
 abbrev pub registryAt : Numbers → ℕ
 registryAt d = 16 + d .spaces * widthOf d

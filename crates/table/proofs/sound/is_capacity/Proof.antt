@@ -1,11 +1,12 @@
 -- `table::sound::is_capacity` meets its contract: the code's tests are those of `capacityTest`, in its order. Assumes nothing.
 use mathlib.Core.Path.{_≡_}
 use mathlib.Core.Bool.{true, false}
-use Prim.Native.Nat.{ℕ, _*_, _<_, _≤_, max}
+use Prim.Native.Nat.{ℕ, _<_, _≤_}
 use borrow.Author.Needs.{needs}
 use borrow.Author.Tests.{eq-eqb, ne-eqb, le-leb, lt-leb}
 use lib.Dec.{eqb}
 use Rattle.base.specs.Arith.{nextPower}
+use Rattle.table.specs.Insert.{slotsFor}
 use Rattle.table.specs.Sound.{capacityTest}
 use Rattle.table.proofs.sound.is_capacity.Statement.{statement}
 use Rattle.table.proofs.sound.is_capacity.Tie as tie
@@ -17,7 +18,7 @@ module _ (most slots : ℕ) (some : ¬ (slots ≡ 0)) where
   low : slots < 8 → false ≡ capacityTest most slots
   low l = rw (ne-eqb slots 0 some, lt-leb 8 slots l)
 
-  module _ (largest : ℕ) (enough : 8 ≤ slots) (is : largest ≡ max 8 (nextPower (2 * most))) where
+  module _ (largest : ℕ) (enough : 8 ≤ slots) (is : largest ≡ slotsFor most) where
     high : largest < slots → false ≡ capacityTest most slots
     high l = rw (ne-eqb slots 0 some, le-leb 8 slots enough, ← is, lt-leb slots largest l)
 
