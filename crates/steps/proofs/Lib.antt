@@ -3,6 +3,5 @@ pub mod laws
 pub mod Entering
 pub mod Lending
 pub mod ChangingEntries
-pub mod TakingIds
 pub mod Copying
 pub mod Leaving

@@ -7,6 +7,7 @@ pub mod Kept
 pub mod RegistryChanged
 pub mod Stepped
 pub mod SpaceSteps
+pub mod Taking
 pub mod TakeStep
 pub mod RegistrySteps
 pub mod Cases

@@ -14,7 +14,8 @@ use Rattle.steps.specs.Steps.{takenId, takeStep, recycleStep}
 use Rattle.steps.specs.declared.Taken.the-variants.{Id}
 use Rattle.steps.proofs.laws.RegistryChanged.{registry-changed, word-changed}
 use Rattle.steps.proofs.laws.RegistrySteps.{recycle-step}
-use Rattle.steps.proofs.laws.TakeStep.{take-by-cases, taken-free}
+use Rattle.steps.proofs.laws.TakeStep.{taken-free}
+use Rattle.steps.proofs.laws.Taking.{take-by-cases}
 use Rattle.world.specs.Numbers.{numbersOf, nextOf, registeredOf, recycledOf}
 use Rattle.world.specs.Regions.{registry, view, onRegion}
 use Rattle.world.specs.Sound.{ids, recycled, SoundAt}

@@ -14,7 +14,7 @@ use Rattle.steps.specs.Replies.{Left}
 use Rattle.steps.specs.Steps.{spaceOf, lookupStep, takenId, takeStep, recycleStep, objects}
 use Rattle.steps.specs.declared.Reply.{Reply}
 use Rattle.steps.specs.declared.Taken.the-variants.{Exhausted}
-use Rattle.steps.proofs.laws.TakeStep.{take-by-cases}
+use Rattle.steps.proofs.laws.Taking.{take-by-cases}
 use Rattle.steps.proofs.laws.OnlyIds.{take-step}
 use Rattle.table.specs.declared.Got.the-variants.{Nothing}
 use Rattle.world.specs.Numbers.{numbersOf, registeredOf}

@@ -22,7 +22,8 @@ use Rattle.steps.specs.Steps.{spaceOf, isEntry, insertStep, removeStep, takenId
 use Rattle.steps.specs.declared.Taken.{Taken}
 use Rattle.steps.specs.declared.Taken.the-variants.{Id, Exhausted}
 use Rattle.steps.proofs.ChangingEntries.{insert-refused, remove-absent}
-use Rattle.steps.proofs.laws.TakeStep.{take-by-cases, taken-free}
+use Rattle.steps.proofs.laws.TakeStep.{taken-free}
+use Rattle.steps.proofs.laws.Taking.{take-by-cases}
 use Rattle.table.specs.Walk.{gotAt}
 use Rattle.table.specs.declared.CapabilityEntry.{CapabilityEntry}
 use Rattle.table.specs.declared.Found.{Found}

@@ -9,7 +9,7 @@ use Rattle.world.specs.Numbers.{nextOf, recycledOf}
 use Rattle.world.specs.declared.Numbers.{Numbers}
 use Rattle.steps.specs.Steps.{takenId}
 use Rattle.steps.specs.declared.Taken.the-variants.{Id, Exhausted}
-use Rattle.steps.proofs.TakingIds.{takes-recycled, takes-next, takes-none}
+use Rattle.steps.proofs.laws.Taking.{takes-recycled, takes-next, takes-none}
 
 pub exhausted-exactly : (d : Numbers) (mem : List ℕ) → (takenId d mem ≡ Exhausted) ↔ ((recycledOf mem ≤ 0) × (2 ^ 48 ≤ nextOf mem))
 exhausted-exactly d mem = (

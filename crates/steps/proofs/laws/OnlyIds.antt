@@ -7,7 +7,8 @@ use lib.ListN.{getD, set}
 use Rattle.registry.specs.Ids.{firstTaken}
 use Rattle.registry.specs.IdsLaws.{taken-columns}
 use Rattle.steps.specs.Steps.{spaceOf, takeStep}
-use Rattle.steps.proofs.laws.TakeStep.{one-less, one-more, take-by-cases}
+use Rattle.steps.proofs.laws.TakeStep.{one-less, one-more}
+use Rattle.steps.proofs.laws.Taking.{take-by-cases}
 use Rattle.world.specs.Numbers.{nextOf, recycledOf}
 use Rattle.world.specs.Regions.{registry, log, queue, view, onRegion}
 use Rattle.world.specs.Sound.{SoundAt}

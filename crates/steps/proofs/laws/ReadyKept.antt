@@ -39,7 +39,7 @@ use Rattle.steps.specs.declared.Taken.the-variants.{Id, Exhausted}
 use Rattle.steps.proofs.ChangingEntries.{still-fits}
 use Rattle.steps.proofs.laws.Kept.{set-view}
 use Rattle.steps.proofs.laws.SpaceChanged.{other-space}
-use Rattle.steps.proofs.laws.TakeStep.{take-by-cases}
+use Rattle.steps.proofs.laws.Taking.{take-by-cases}
 
 -- The memory is ready, and the words of the head are as they were.
 pub record Stays (d : Numbers) (mem after : List ℕ) : Type 0 where
@@ -249,10 +249,9 @@ module _ (d : Numbers) (mem : List ℕ) (ready : Ready d mem) where
         room = λ id is. omega (arith, leaves .word, ready .recycled-fit);
       }
 
-  next-taken : m ≤ 0 → nextOf mem < 2 ^ 48 → Takes d mem (Id (nextOf mem)) (set mem 5 (nextOf mem + 1))
-  next-taken none more =
-      let leaves =
-      word-leaves d mem ready 5 (nextOf mem + 1) (omega arith) (λ e. omega arith) (λ e. omega arith) in
+  next-taken : m ≤ 0 → Takes d mem (Id (nextOf mem)) (set mem 5 (nextOf mem + 1))
+  next-taken none =
+      let leaves = word-leaves d mem ready 5 (nextOf mem + 1) (omega arith) (λ e. omega arith) (λ e. omega arith) in
       record {
         ready = leaves .ready;
         others = λ j l not-next not-recycled. leaves .others j l not-next;
@@ -267,7 +266,7 @@ module _ (d : Numbers) (mem : List ℕ) (ready : Ready d mem) where
   }
 
   pub take-leaves : Takes d mem (takenId d mem) (takeStep d mem)
-  take-leaves = take-by-cases d mem (Takes d mem) again-taken next-taken none-taken
+  take-leaves = take-by-cases d mem (Takes d mem) again-taken (λ none more. next-taken none) none-taken
 
   pub ready-take : Ready d (takeStep d mem)
   ready-take = take-leaves .ready

@@ -1,15 +1,11 @@
 -- Taking an id keeps a sound memory, and the id taken is free: in 1..2^48-1, issued, not registered, and recycled no more. And there is
 -- room to give it back.
-use mathlib.Core.Path.{_≡_, refl, sym, ap, subst, _∙_}
+use mathlib.Core.Path.{_≡_, sym, ap, subst, _∙_}
 use mathlib.Core.Logic.{_≢_}
-use mathlib.Core.Bool.{Bool, true, false}
 use mathlib.Core.List.{List}
 use Prim.Native.Nat.{ℕ, _+_, _-_, _*_, _^_, _≤_, _<_}
 use native.Mathlib.Omega.{arith}
-use borrow.Author.Tests.{ltb-true, ltb-false}
-use lib.Dec.{ltb}
 use lib.ListN.{length, set}
-use Rattle.base.specs.Choose.{pick}
 use Rattle.registry.specs.Ids.{firstTaken}
 use Rattle.registry.specs.IdsLaws.{length-taken, taken-columns, taken-registered, taken-others, taken-unregistered, taken-smallest}
 use Rattle.registry.specs.Sound.{Held}
@@ -20,10 +16,12 @@ use Rattle.world.specs.Sound.{ids, recycled, spacesWith, SoundAt}
 use Rattle.world.specs.Views.{registry-words}
 use Rattle.world.specs.declared.Numbers.{Numbers}
 use Rattle.steps.specs.Steps.{takenId, takeStep}
-use Rattle.steps.specs.declared.Taken.{Taken}
-use Rattle.steps.specs.declared.Taken.the-variants.{Id, Exhausted}
+use Rattle.steps.specs.declared.Taken.the-variants.{Id}
 use Rattle.steps.proofs.laws.Kept.{Kept, kept-refl, registry-rules}
+use Rattle.steps.proofs.laws.Ready.{ready-at}
+use Rattle.steps.proofs.laws.ReadyKept.{take-room}
 use Rattle.steps.proofs.laws.RegistryChanged.{RegistryChanged, registry-changed, word-changed, changed-kept, recycled-changed-kept}
+use Rattle.steps.proofs.laws.Taking.{take-by-cases}
 
 -- The id i is free to be registered.
 pub record Free (d : Numbers) (mem : List ℕ) (i : ℕ) : Type 0 where
@@ -32,25 +30,6 @@ pub record Free (d : Numbers) (mem : List ℕ) (i : ℕ) : Type 0 where
   pub issued : i < nextOf mem
   pub unregistered : (k : ℕ) → k < registeredOf mem → ids d mem k ≢ i
   pub not-recycled : (k : ℕ) → k < recycledOf mem → recycled d mem k ≢ i
-
--- The three ways of taking: the smallest recycled id, the next one where none is recycled, or none.
-pub take-by-cases :
-    (d : Numbers) (mem : List ℕ) (P : Taken → List ℕ → Type 0)
-    → (0 < recycledOf mem
-    → P (Id (recycled d mem 0)) (set (onRegion d registry (firstTaken (d .places) (recycledOf mem)) mem) 12 (recycledOf mem - 1)))
-    → (recycledOf mem ≤ 0 → nextOf mem < 2 ^ 48 → P (Id (nextOf mem)) (set mem 5 (nextOf mem + 1))) → P Exhausted mem
-    → P (takenId d mem) (takeStep d mem)
-unfolding takenId takeStep
-take-by-cases d mem P again new none = go (ltb 0 (recycledOf mem)) refl (ltb (nextOf mem) (2 ^ 48)) refl
-  where
-    go :
-        (b : Bool) → ltb 0 (recycledOf mem) ≡ b → (c : Bool) → ltb (nextOf mem) (2 ^ 48) ≡ c
-        → P (pick b (Id (recycled d mem 0)) (pick c (Id (nextOf mem)) Exhausted))
-        (pick b (set (onRegion d registry (firstTaken (d .places) (recycledOf mem)) mem) 12 (recycledOf mem - 1))
-        (pick c (set mem 5 (nextOf mem + 1)) mem))
-    go true h c e = again (ltb-true 0 (recycledOf mem) h)
-    go false h true e = new (ltb-false 0 (recycledOf mem) h) (ltb-true (nextOf mem) (2 ^ 48) e)
-    go false h false e = none
 
 module _ (d : Numbers) (mem : List ℕ) (sound : SoundAt d mem) where
   abbrev rg : List ℕ
@@ -185,8 +164,4 @@ module _ (d : Numbers) (mem : List ℕ) (sound : SoundAt d mem) where
       (λ e. let z : _≡_ {A = ℕ} 0 1 = cc in absurd (omega arith))
 
   pub taken-room : (i : ℕ) → takenId d mem ≡ Id i → recycledOf (takeStep d mem) ≤ d .places
-  taken-room i =
-      take-by-cases d mem (λ t after. t ≡ Id i → recycledOf after ≤ d .places)
-      (λ some e. omega (arith, one-less some .new-word, sound .recycled-fit))
-      (λ none more e. omega (arith, recycled-as-was more))
-      (λ e. let z : _≡_ {A = ℕ} 0 1 = cc in absurd (omega arith))
+  taken-room = take-room d mem (ready-at d mem sound)

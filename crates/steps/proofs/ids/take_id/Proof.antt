@@ -7,7 +7,7 @@ use Rattle.registry.specs.Words.{recycledAt}
 use Rattle.world.specs.Numbers.{recycledOf}
 use denote.Ref.{now}
 use Rattle.steps.proofs.Lending.{lent-registry, registry-long, registry-back}
-use Rattle.steps.proofs.TakingIds.{takes-recycled, takes-next, takes-none}
+use Rattle.steps.proofs.laws.Taking.{takes-recycled, takes-next, takes-none}
 use Rattle.steps.proofs.ids.take_id.Statement.{statement}
 use Rattle.steps.proofs.ids.take_id.Tie as tie
 

@@ -1,7 +1,10 @@
--- The three ways of taking an id: the smallest recycled one, the next, or none.
+-- The three ways of taking an id: the smallest recycled one, the next where none is recycled, or none.
 use mathlib.Core.List.{List}
+use mathlib.Core.Logic.{by-cases}
 use mathlib.Core.Path.{_≡_, refl}
 use Prim.Native.Nat.{ℕ, _+_, _-_, _^_, _<_, _≤_}
+use native.Mathlib.Decide.{decLt}
+use native.Mathlib.Omega.{arith}
 use borrow.Author.Tests.{lt-ltb, le-ltb}
 use lib.ListN.{set}
 use Rattle.registry.specs.Ids.{firstTaken}
@@ -10,6 +13,7 @@ use Rattle.world.specs.Regions.{registry, onRegion}
 use Rattle.world.specs.Sound.{recycled}
 use Rattle.world.specs.declared.Numbers.{Numbers}
 use Rattle.steps.specs.Steps.{takenId, takeStep}
+use Rattle.steps.specs.declared.Taken.{Taken}
 use Rattle.steps.specs.declared.Taken.the-variants.{Id, Exhausted}
 
 module _ (d : Numbers) (mem : List ℕ) where
@@ -26,3 +30,18 @@ module _ (d : Numbers) (mem : List ℕ) where
     pub takes-none : 2 ^ 48 ≤ nextOf mem → (mem ≡ takeStep d mem) × (Exhausted ≡ takenId d mem)
     unfolding takeStep takenId
     takes-none over = rw (le-ltb 0 (recycledOf mem) none, le-ltb (nextOf mem) (2 ^ 48) over) (refl, refl)
+
+-- What holds of each holds of taking.
+pub take-by-cases :
+    (d : Numbers) (mem : List ℕ) (P : Taken → List ℕ → Type 0)
+    → (0 < recycledOf mem
+    → P (Id (recycled d mem 0)) (set (onRegion d registry (firstTaken (d .places) (recycledOf mem)) mem) 12 (recycledOf mem - 1)))
+    → (recycledOf mem ≤ 0 → nextOf mem < 2 ^ 48 → P (Id (nextOf mem)) (set mem 5 (nextOf mem + 1))) → P Exhausted mem
+    → P (takenId d mem) (takeStep d mem)
+take-by-cases d mem P again new none =
+    by-cases (decLt 0 (recycledOf mem))
+    (λ some. let (steps, takes) = takes-recycled d mem _ _ some refl refl in rw (← steps, ← takes) (again some))
+    (λ empty.
+    by-cases (decLt (nextOf mem) (2 ^ 48))
+    (λ more. let (steps, takes) = takes-next d mem (omega arith) more in rw (← steps, ← takes) (new (omega arith) more))
+    (λ over. let (steps, takes) = takes-none d mem (omega arith) (omega arith) in rw (← steps, ← takes) none))
