@@ -15,7 +15,7 @@ use Rattle.space.specs.Lookup.{lookedUp}
 use Rattle.steps.specs.Replies.{Left}
 use Rattle.steps.specs.Steps.{spaceOf, lookupStep}
 use Rattle.steps.specs.declared.Reply.{Reply}
-use Rattle.steps.proofs.laws.Cases.{when-by-cases, given, not-given}
+use Rattle.steps.proofs.laws.Cases.{when-by-cases, Exactly, given, not-given}
 use Rattle.table.specs.declared.CapabilityEntry.{CapabilityEntry}
 use Rattle.table.specs.declared.Got.{Got}
 use Rattle.table.specs.declared.Got.the-variants.{Entry, Nothing}
@@ -54,19 +54,16 @@ module _ (mem : List ℕ) (sound : Sound mem) (s : ℕ) (there : s < numbersOf m
       (without : length listed ≤ 32 → Without → (InsufficientRights ≡ a) ↔ A)
       (with′ : length listed ≤ 32 → (e : CapabilityEntry) → got ≡ Entry e → holds (e .rights .0) (2 ^ 4) ≡ true → ¬ A)
     where
-      abbrev Exactly : Left Reply → Type 0
-      Exactly out = (out .reply .answer ≡ a) ↔ A
-
       by-holding : (revokeHeldOut mem s token time listed .reply .answer ≡ a) ↔ A
       by-holding =
-          held-by-cases mem time listed Exactly (λ bad. absurd (bad sound)) s token (λ sound far. absurd (omega arith))
+          held-by-cases mem time listed (Exactly a A) (λ bad. absurd (bad sound)) s token (λ sound far. absurd (omega arith))
           (λ sound there. many)
           (λ sound there few. go few got refl)
         where
           go : length listed ≤ 32 → (g : Got) → got ≡ g → (outFor g .reply .answer ≡ a) ↔ A
           go few Nothing is = absent few is
           go few (Entry e) is =
-              when-by-cases Exactly _ _ (not (holds (e .rights .0) (2 ^ 4))) (λ h. without few (e, (is, not-true _ h)))
+              when-by-cases (Exactly a A) _ _ (not (holds (e .rights .0) (2 ^ 4))) (λ h. without few (e, (is, not-true _ h)))
               (λ h. not-own _ a (revoking-token-own d after token time listed) low high (with′ few e is (not-false _ h)))
 
   pub held-told-21 : (revokeHeldOut mem s token time listed .reply .answer ≡ BadField) ↔ (32 < length listed)
@@ -123,19 +120,16 @@ module _ (mem : List ℕ) (sound : Sound mem) (s : ℕ) (there : s < numbersOf m
 
     held-told-own : (a : Answer) → Own a → (revokeHeldOut mem s token time listed .reply .answer ≡ a) ↔ (With × ByToken a)
     held-told-own a own =
-        held-by-cases mem time listed Exactly (λ bad. absurd (bad sound)) s token (λ sound far. absurd (omega arith))
+        held-by-cases mem time listed (Exactly a (With × ByToken a)) (λ bad. absurd (bad sound)) s token (λ sound far. absurd (omega arith))
         (λ sound there many. absurd (omega arith))
         (λ sound there few. go got refl)
       where
-        Exactly : Left Reply → Type 0
-        Exactly out = (out .reply .answer ≡ a) ↔ (With × ByToken a)
-
-        go : (g : Got) → got ≡ g → Exactly (outFor g)
+        go : (g : Got) → got ≡ g → Exactly a (With × ByToken a) (outFor g)
         go Nothing none =
             not-given NotFound a (λ e. own-not a own 8 (λ z. omega arith) (λ z. omega arith) (λ z. omega arith) (sym e))
             (λ ((e, (is, has)), gives). held-once got e is none)
         go (Entry e) is =
-            when-by-cases Exactly _ _ (not (holds (e .rights .0) (2 ^ 4)))
+            when-by-cases (Exactly a (With × ByToken a)) _ _ (not (holds (e .rights .0) (2 ^ 4)))
             (λ h.
             not-given InsufficientRights a
             (λ e. own-not a own 2 (λ z. omega arith) (λ z. omega arith) (λ z. omega arith) (sym e))

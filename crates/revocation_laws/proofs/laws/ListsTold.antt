@@ -8,14 +8,12 @@ use native.Mathlib.Omega.{arith}
 use borrow.Author.Tests.{ltb-true, ltb-false, leb-true, leb-false}
 use lib.Dec.{leb, ltb}
 use lib.ListN.{length}
-use Rattle.answers.specs.declared.Answer.{Answer}
 use Rattle.answers.specs.declared.Answer.the-variants.{Done, BadField, PidTableFull, BadWorld}
 use Rattle.revocation.specs.Reason.{reasonOf, nameOf}
 use Rattle.revocation_steps.specs.Revocation.{queueFor}
 use Rattle.steps.specs.Replies.{Left, Listed}
 use Rattle.steps.specs.Steps.{placeIn}
-use Rattle.steps.specs.declared.Reply.{Reply}
-use Rattle.steps.proofs.laws.Cases.{when-by-cases, given, not-given}
+use Rattle.steps.proofs.laws.Cases.{when-by-cases, Exactly, given, not-given}
 use Rattle.steps.proofs.laws.Entered.{world-by-cases}
 use Rattle.world.specs.Numbers.{numbersOf}
 use Rattle.world.specs.Sound.{Sound}
@@ -114,9 +112,6 @@ module _ (mem : List ℕ) (sound : Sound mem) where
     drain-told-21 = rw (drain-peeks mem pid area) peek-told-21
 
   module _ (pid id reason time : ℕ) where
-    abbrev Exactly : Answer → Type 0 → Left Reply → Type 0
-    Exactly a A out = (out .reply .answer ≡ a) ↔ A
-
     pub notify-told-21 : (notifyOut mem pid id reason time .reply .answer ≡ BadField) ↔ ((2 ^ 48 ≤ id) ⊎ (3 < reason))
     notify-told-21 =
         notify-by-cases mem pid id reason time (Exactly BadField ((2 ^ 48 ≤ id) ⊎ (3 < reason))) unsound

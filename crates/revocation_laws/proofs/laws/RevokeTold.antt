@@ -11,10 +11,8 @@ use Rattle.answers.specs.declared.Answer.{Answer}
 use Rattle.answers.specs.declared.Answer.the-variants.{Done, InvalidCapability, BadField, LogFull, PidTableFull}
 use Rattle.registry.specs.Words.{revoked}
 use Rattle.revocation_steps.specs.Revocation.{freeQueues, cascadeQueues}
-use Rattle.steps.specs.Replies.{Left}
 use Rattle.steps.specs.Steps.{placeIn}
-use Rattle.steps.specs.declared.Reply.{Reply}
-use Rattle.steps.proofs.laws.Cases.{given, not-given}
+use Rattle.steps.proofs.laws.Cases.{Exactly, given, not-given}
 use Rattle.token.specs.Token.{idOf}
 use Rattle.world.specs.Numbers.{numbersOf, registeredOf}
 use Rattle.world.specs.Sound.{states, Sound}
@@ -23,10 +21,6 @@ use Rattle.revocation_calls.specs.Calls.{revokeOut, revokeCapabilityOut}
 use Rattle.revocation_calls.specs.Revoking.{revoking, revokingToken}
 use Rattle.revocation_calls.proofs.laws.RevokingWays.{pairsAfter, pairsWith, revoking-by-cases, listing-by-cases, revoking-token-by-cases}
 use Rattle.revocation_laws.proofs.laws.Ways.{Own, own-not, revoking-own, revoking-token-own, revoke-by-cases, revoke-capability-by-cases, revoke-capability-called}
-
--- It is the answer a exactly in the case A.
-abbrev Exactly : Answer → Type 0 → Left Reply → Type 0
-Exactly a A out = (out .reply .answer ≡ a) ↔ A
 
 -- ---- from a registered place
 

@@ -8,6 +8,8 @@ use lib.Dec.{ltb}
 use Rattle.answers.specs.Number.{numberOf}
 use Rattle.answers.specs.declared.Answer.{Answer}
 use Rattle.base.specs.Choose.{pick, when, when-yes, when-no}
+use Rattle.steps.specs.Replies.{Left}
+use Rattle.steps.specs.declared.Reply.{Reply}
 
 module _ {A : Type 0} (P : A → Type 0) (a rest : A) where
   pub pick-by-cases : (b : Bool) → (b ≡ true → P a) → (b ≡ false → P rest) → P (pick b a rest)
@@ -39,6 +41,10 @@ stated true a b = a
 stated false a b = b
 
 -- ---- an answer and its case
+
+-- The answer is a exactly in the case A.
+abbrev pub Exactly : Answer → Type 0 → Left Reply → Type 0
+Exactly a A out = (out .reply .answer ≡ a) ↔ A
 
 -- The answer is given and its case holds; or it is another, and its case does not.
 pub given : {a b : Answer} {A : Type 0} → a ≡ b → A → (a ≡ b) ↔ A
