@@ -1,4 +1,4 @@
--- What everything above shares: choosing, quantifying and counting below a number, and the parts of a list.
+-- What everything above shares: choosing, quantifying and counting below a number, and the words and parts of a list.
 pub mod Choose
 pub mod Below
 pub mod AllLaws
@@ -12,6 +12,8 @@ pub mod Shift
 pub mod Written
 pub mod Arith
 pub mod Distinct
+pub mod Members
+pub mod Sifted
 pub mod Chain
 pub mod Place
 pub mod Listed

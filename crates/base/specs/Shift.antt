@@ -97,10 +97,6 @@ module _ (at end : ℕ) (xs : List ℕ) (ordered : at ≤ end) (fits : end < len
   unfolding shiftedUp
   shiftedUp-in i l u = moved-in (at + 1) at end xs ordered (omega arith) (omega arith) (i + 1) i (omega arith) (omega arith) u
 
-  pub shiftedUp-after : (i : ℕ) → end < i → getD (shiftedUp at end xs) i 0 ≡ getD xs i 0
-  unfolding shiftedUp
-  shiftedUp-after i l = moved-after (at + 1) at end xs ordered (omega arith) (omega arith) i (omega arith)
-
 -- ---- a word at a time
 
 moved-none : (to from end : ℕ) (xs : List ℕ) → end ≤ from → moved to from end xs ≡ xs

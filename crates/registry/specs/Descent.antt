@@ -5,6 +5,7 @@ use Prim.Native.Nat.{ℕ, zero, suc, _+_, _*_}
 use lib.Dec.{eqb, ltb}
 use lib.ListN.{length, getD, set}
 use Rattle.base.specs.Choose.{pick}
+use Rattle.base.specs.Sifted.{sifted}
 use Rattle.registry.specs.Words.{stateAt, revoked}
 use Rattle.registry.specs.Children.{childPlaces}
 
@@ -23,10 +24,7 @@ descent places n rg r = descendedFrom places n rg n 0 (r ∷ [])
 
 -- Of these places those that are not revoked yet.
 unfoldable pub unrevokedOf : ℕ → List ℕ → List ℕ → List ℕ
-unrevokedOf places rg [] = []
-unrevokedOf places rg (k ∷ ks) =
-    let later = unrevokedOf places rg ks in
-    pick (eqb (revoked (stateAt places rg k)) 0) (k ∷ later) later
+unrevokedOf places rg ks = sifted (λ k. eqb (revoked (stateAt places rg k)) 0) ks
 
 -- Revoked, with generation up by one: the generation is the flag.
 abbrev pub markedState : ℕ → ℕ

@@ -1,7 +1,6 @@
 -- Laws of the descent of place r: it has exactly the registered places under r, each once, r first and every other behind its parent.
 use mathlib.Core.Path.{_≡_, refl, sym, ap, _∙_}
-use mathlib.Core.Logic.{_≢_, _↔_, inl, inr, by-cases}
-use mathlib.Core.Bool.{Bool, true, false}
+use mathlib.Core.Logic.{_≢_, _↔_, by-cases}
 use mathlib.Core.List.{List, [], _∷_, _++_}
 use Prim.Native.Nat.{ℕ, zero, suc, _+_, _-_, _<_, _≤_}
 use native.Mathlib.Decide.{ℕ-discrete, decLt}
@@ -10,24 +9,21 @@ use borrow.Author.Tests.{lt-ltb, le-ltb, eqb-true, eqb-false}
 use lib.Dec.{eqb}
 use lib.ListN.{length, getD, length-append}
 use Rattle.base.specs.Below.{first}
-use Rattle.base.specs.Choose.{pick}
 use Rattle.base.specs.Distinct.{Differ}
 use Rattle.base.specs.FirstLaws.{first-le, first-passes, first-before}
-use Rattle.registry.specs.Words.{linkAt, childOf}
+use Rattle.base.specs.Members.{In, Once, append-left, append-right, append-each, in-left, in-right}
+use Rattle.registry.specs.Words.{linkAt}
 use Rattle.registry.specs.Sound.{Linked}
-use Rattle.registry.specs.Children.{childPlacesFrom, childPlaces}
+use Rattle.registry.specs.Children.{childPlaces}
+use Rattle.registry.specs.ChildrenLaws.{Sisters, child-places-exactly}
 use Rattle.registry.specs.Without.{past, past-le, differ-without, left-out}
-use Rattle.registry.specs.PlaceLists.{In, AllBelow, in-cons, append-left, append-right, append-each, in-left, in-right}
+use Rattle.registry.specs.PlaceLists.{AllBelow}
 use Rattle.registry.specs.Descent.{descendedFrom, descent}
 
 -- Place k is r, or the parent of k is under r.
 pub data Under (link : ℕ → ℕ) (r : ℕ) : ℕ → Type 0 where
   itself : Under link r r
   below : (k p : ℕ) → link k ≡ suc p → Under link r p → Under link r k
-
--- The places of a list differ.
-abbrev pub Once : List ℕ → Type 0
-Once ks = Differ (length ks) (λ j. getD ks j 0)
 
 -- Of n numbers at most n differ.
 differ-few : (n m : ℕ) (f : ℕ → ℕ) → Differ m f → ((j : ℕ) → j < m → f j < n) → m ≤ n
@@ -50,63 +46,6 @@ differ-few (suc n) m f differ inside =
     let other : f j ≢ n = eqb-false (f j) n (first-before (λ j. eqb (f j) n) m j (omega (arith, first-le (λ j. eqb (f j) n) m))) in
     omega (arith, inside j l)) in
     omega arith)
-
--- ---- the children of a place
-
--- The list has the children of place p among the m places from k on, each once.
-record Sisters (link : ℕ → ℕ) (p k m : ℕ) (ks : List ℕ) : Type 0 where
-  each : (j : ℕ) → j < length ks → (k ≤ getD ks j 0) × (getD ks j 0 < k + m) × (link (getD ks j 0) ≡ suc p)
-  once : Once ks
-  whole : (i : ℕ) → k ≤ i → i < k + m → link i ≡ suc p → In ks i
-
-module _ (link : ℕ → ℕ) (p k m : ℕ) (later : List ℕ) (sisters : Sisters link p (k + 1) m later) where
-  with-child : link k ≡ suc p → Sisters link p k (suc m) (k ∷ later)
-  with-child named = record {
-    each = λ j l. first-or-later j l;
-    once = λ j l i u e. apart j l i u e;
-    whole = λ i l u e.
-        by-cases (ℕ-discrete i k)
-        (λ here. in-cons k later i .1 (inl (sym here)))
-        (λ other. in-cons k later i .1 (inr (sisters .whole i (omega arith) (omega arith) e)));
-  }
-    where
-      first-or-later : (j : ℕ) → j < suc (length later)
-          → (k ≤ getD (k ∷ later) j 0) × (getD (k ∷ later) j 0 < k + suc m) × (link (getD (k ∷ later) j 0) ≡ suc p)
-      first-or-later zero l = (omega arith, omega arith, named)
-      first-or-later (suc j) l = let is = sisters .each j (omega arith) in (omega arith, omega arith, is .2)
-
-      apart : Once (k ∷ later)
-      apart zero l i u e = omega arith
-      apart (suc j) l zero u e = omega (arith, sisters .each j (omega arith) .0)
-      apart (suc j) l (suc i) u e = sisters .once j (omega arith) i (omega arith) e
-
-  with-other : link k ≢ suc p → Sisters link p k (suc m) later
-  with-other other = record {
-    each = λ j l. let is = sisters .each j l in (omega arith, omega arith, is .2);
-    once = sisters .once;
-    whole = λ i l u e.
-        let apart : i ≢ k = λ here. other (ap link (sym here) ∙ e) in
-        sisters .whole i (omega arith) (omega arith) e;
-  }
-
-child-places-from : (places p k m : ℕ) (rg : List ℕ) → Sisters (linkAt places rg) p k m (childPlacesFrom places p k m rg)
-unfolding childPlacesFrom
-child-places-from places p k zero rg = record {
-  each = λ j l. absurd (omega arith);
-  once = λ j l i u e. omega arith;
-  whole = λ i l u e. absurd (omega arith);
-}
-child-places-from places p k (suc m) rg = go (childOf link p k) refl (child-places-from places p (k + 1) m rg)
-  where
-    link : ℕ → ℕ
-    link = linkAt places rg
-
-    later : List ℕ
-    later = childPlacesFrom places p (k + 1) m rg
-
-    go : (b : Bool) → childOf link p k ≡ b → Sisters link p (k + 1) m later → Sisters link p k (suc m) (pick b (k ∷ later) later)
-    go true e sisters = with-child link p k m later sisters (eqb-true (link k) (suc p) e)
-    go false e sisters = with-other link p k m later sisters (eqb-false (link k) (suc p) e)
 
 -- ---- the places found so far
 
@@ -146,6 +85,9 @@ module _ (n : ℕ) (link : ℕ → ℕ) (r at : ℕ) (found : List ℕ) (descend
         let (a, before, turn, named) = descending .parent (suc i) u (omega arith) in
         descending .once at more a turn (omega (arith, ap link e, sisters .each j l .2))
 
+    sisters-once : Once ks
+    sisters-once j l i u e = omega (arith, sisters .ascending j l i u)
+
     was : (i : ℕ) → i < length found → getD (found ++ ks) i 0 ≡ getD found i 0
     was = append-left found ks
 
@@ -174,7 +116,7 @@ module _ (n : ℕ) (link : ℕ → ℕ) (r at : ℕ) (found : List ℕ) (descend
           (λ added.
           let a : ℕ = i - length found in
           let place : length found + a ≡ i = omega arith in
-          sisters .once j l a (omega arith) (sym (append-right found ks a) ∙ ap (λ x. getD (found ++ ks) x 0) place ∙ e)));
+          sisters-once j l a (omega arith) (sym (append-right found ks a) ∙ ap (λ x. getD (found ++ ks) x 0) place ∙ e)));
       closed = λ i l k u e.
           by-cases (ℕ-discrete i at)
           (λ here. in-right found ks k (sisters .whole k (omega arith) (omega arith) (e ∙ ap suc (ap (λ x. getD (found ++ ks) x 0) here ∙ was at more))))
@@ -187,9 +129,9 @@ module _ (places n : ℕ) (rg : List ℕ) (r : ℕ) (linked : Linked n (linkAt p
 
   pub descending-goes : (at : ℕ) (found : List ℕ) → Descending n link r at found → at < length found
       → Descending n link r (at + 1) (found ++ childPlaces places (getD found at 0) n rg)
-  unfolding childPlaces
   descending-goes at found descending more =
-      goes n link r at found descending linked more (childPlaces places (getD found at 0) n rg) (child-places-from places (getD found at 0) 0 n rg)
+      let p : ℕ = getD found at 0 in
+      goes n link r at found descending linked more (childPlaces places p n rg) (child-places-exactly places p n rg)
 
   -- ---- all places found
 

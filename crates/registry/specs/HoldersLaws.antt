@@ -7,72 +7,40 @@ use native.Mathlib.Decide.{ℕ-discrete, decLt}
 use native.Mathlib.Omega.{arith}
 use borrow.Author.Tests.{lt-ltb, le-ltb, eqb-true, eq-eqb, ne-eqb}
 use lib.Dec.{eqb}
-use lib.ListN.{length, getD, set, length-set}
+use lib.ListN.{length, set}
 use lib.Seq.{getD-set-same, getD-set-other}
 use Rattle.base.specs.Below.{one}
 use Rattle.base.specs.SumLaws.{one-le}
 use Rattle.base.specs.Distinct.{Differ}
 use Rattle.base.specs.FirstLaws.{first-is, first-passes}
-use Rattle.registry.specs.Words.{idAt, objectAt, stateAt, linkAt, recycledAt, revoked, listed, holders}
+use Rattle.registry.specs.Words.{idAt, stateAt, holders}
 use Rattle.registry.specs.Holders.{placeOf, onState, oneMore, oneLess, held, released, eachId, heldAll, releasedAll}
-use Rattle.registry.specs.Rules.{RegisteredRules, RecycledRules, Same, differ-same, registered-same, recycled-same}
+use Rattle.registry.specs.Rules.{RegisteredRules}
+use Rattle.registry.specs.StatesOnly.{StatesOnly, ByAt, by-keeps, states-only-none, states-only-as, states-only-one, states-only-then, same-ids, states-only-differ, flags-same-registered}
 
 -- ---- what stays
 
+-- The flags of a state stay.
+abbrev pub SameFlags : ℕ → ℕ → ℕ → Type 0
+SameFlags k state state′ = state′ % 4 ≡ state % 4
+
 -- Outside the states every word stays, and of each state the flags.
-pub record HoldersOnly (places : ℕ) (rg rg′ : List ℕ) : Type 0 where
-  pub same-length : length rg′ ≡ length rg
-  pub before : (i : ℕ) → i < 2 * places → getD rg′ i 0 ≡ getD rg i 0
-  pub after : (i : ℕ) → 3 * places ≤ i → getD rg′ i 0 ≡ getD rg i 0
-  pub flags : (k : ℕ) → k < places → stateAt places rg′ k % 4 ≡ stateAt places rg k % 4
+abbrev pub HoldersOnly : ℕ → List ℕ → List ℕ → Type 0
+HoldersOnly places rg rg′ = StatesOnly SameFlags places rg rg′
 
-pub holders-only-refl : (places : ℕ) (rg : List ℕ) → HoldersOnly places rg rg
-holders-only-refl places rg = record { same-length = refl; before = λ i l. refl; after = λ i l. refl; flags = λ k l. refl }
+module _ (places : ℕ) where
+  pub holders-only-refl : (rg : List ℕ) → HoldersOnly places rg rg
+  holders-only-refl = states-only-none places SameFlags (λ k state. refl)
 
-pub holders-only-trans : (places : ℕ) (rg rg′ rg″ : List ℕ) → HoldersOnly places rg rg′ → HoldersOnly places rg′ rg″ → HoldersOnly places rg rg″
-holders-only-trans places rg rg′ rg″ h g = record {
-  same-length = g .same-length ∙ h .same-length;
-  before = λ i l. g .before i l ∙ h .before i l;
-  after = λ i l. g .after i l ∙ h .after i l;
-  flags = λ k l. g .flags k l ∙ h .flags k l;
-}
+  pub holders-only-trans : (rg rg′ rg″ : List ℕ) → HoldersOnly places rg rg′ → HoldersOnly places rg′ rg″ → HoldersOnly places rg rg″
+  holders-only-trans = states-only-then places SameFlags SameFlags SameFlags (λ k s s′ s″ h g. g ∙ h)
 
-module _ (places : ℕ) (rg rg′ : List ℕ) (only : HoldersOnly places rg rg′) where
-  pub same-ids : Same places (idAt rg) (idAt rg′)
-  same-ids k l = only .before k (omega arith)
-
-  pub same-objects : Same places (objectAt places rg) (objectAt places rg′)
-  same-objects k l = only .before (places + k) (omega arith)
-
-  pub same-links : Same places (linkAt places rg) (linkAt places rg′)
-  same-links k l = only .after (3 * places + k) (omega arith)
-
-  pub same-recycled : (k : ℕ) → recycledAt places rg′ k ≡ recycledAt places rg k
-  same-recycled k = only .after (4 * places + k) (omega arith)
-
-  pub same-revoked : Same places (λ k. revoked (stateAt places rg k)) (λ k. revoked (stateAt places rg′ k))
-  same-revoked k l = omega (arith, only .flags k l)
-
-  pub same-listed : Same places (λ k. listed (stateAt places rg k)) (λ k. listed (stateAt places rg′ k))
-  same-listed k l = omega (arith, only .flags k l)
-
-  pub holders-only-differ : (n : ℕ) → n ≤ places → Differ n (idAt rg) → Differ n (idAt rg′)
-  holders-only-differ n fit differ = differ-same n (idAt rg) (idAt rg′) (λ k l. same-ids k (omega arith)) differ
-
-  -- The rules do not speak of holders.
-  module _ (n next : ℕ) (fit : n ≤ places) where
-    below : Same n (idAt rg) (idAt rg′)
-    below k l = same-ids k (omega arith)
-
-    pub holders-only-registered : RegisteredRules places n next rg → RegisteredRules places n next rg′
-    holders-only-registered =
-        registered-same places n next rg rg′ below
-        (λ k l. same-links k (omega arith))
-        (λ k l. same-listed k (omega arith))
-        (λ k l. same-revoked k (omega arith))
-
-    pub holders-only-recycled : (m : ℕ) → RecycledRules places n m next rg → RecycledRules places n m next rg′
-    holders-only-recycled m = recycled-same places n next rg rg′ below m (λ k l. same-recycled k)
+-- The rules of registered ids do not speak of holders.
+pub holders-only-registered :
+    (places : ℕ) (rg rg′ : List ℕ) → HoldersOnly places rg rg′ → (n : ℕ) → n ≤ places → (next : ℕ)
+    → RegisteredRules places n next rg → RegisteredRules places n next rg′
+holders-only-registered places rg rg′ only n fit next =
+    flags-same-registered places rg rg′ only n fit next (λ k l. omega (arith, only .states k)) (λ k l. omega (arith, only .states k))
 
 -- ---- the place of an id
 
@@ -91,17 +59,6 @@ module _ (n : ℕ) (rg : List ℕ) (id : ℕ) where
 -- ---- one id
 
 module _ (places n : ℕ) (rg : List ℕ) (fit : n ≤ places) (long : 5 * places + 1 ≤ length rg) where
-  state-only : (k v : ℕ) → k < places → v % 4 ≡ stateAt places rg k % 4 → HoldersOnly places rg (set rg (2 * places + k) v)
-  state-only k v l same = record {
-    same-length = length-set rg (2 * places + k) v;
-    before = λ i u. getD-set-other rg (2 * places + k) i v 0 (omega arith);
-    after = λ i u. getD-set-other rg (2 * places + k) i v 0 (omega arith);
-    flags = λ j u.
-        by-cases (ℕ-discrete j k)
-        (λ here. rw (here, getD-set-same rg (2 * places + k) v 0 (omega arith)) same)
-        (λ other. rw (getD-set-other rg (2 * places + k) (2 * places + j) v 0 (omega arith)));
-  }
-
   module _ (id : ℕ) (f : ℕ → ℕ) where
     abbrev p : ℕ
     p = placeOf n rg id
@@ -109,7 +66,10 @@ module _ (places n : ℕ) (rg : List ℕ) (fit : n ≤ places) (long : 5 * place
     change-only : ((s : ℕ) → f s % 4 ≡ s % 4) → HoldersOnly places rg (onState places n id f rg)
     change-only keeps =
         by-cases (decLt p n)
-        (λ l. rw (lt-ltb p n l) (state-only p (f (stateAt places rg p)) (omega arith) (keeps (stateAt places rg p))))
+        (λ l.
+        rw (lt-ltb p n l)
+        (states-only-as places (ByAt f (λ k. k ≡ p)) SameFlags (by-keeps (λ s. s % 4) f keeps (λ k. k ≡ p)) rg
+        (set rg (2 * places + p) (f (stateAt places rg p))) (states-only-one places f p rg (omega arith) long)))
         (λ none′. rw (le-ltb p n (omega arith)) (holders-only-refl places rg))
 
     module _ (k : ℕ) (l : k < n) where
@@ -195,7 +155,7 @@ module _ (places n : ℕ) (fit : n ≤ places) where
         let one-id : holders (stateAt places rg′ k) ≡ holders (stateAt places rg k) + one (eqb (idAt rg k) id) =
         held-holders places n rg fit long id differ k l (omega arith) in
         let rest =
-        held-all-holders ids rg′ (omega (arith, only .same-length)) (holders-only-differ places rg rg′ only n fit differ)
+        held-all-holders ids rg′ (omega (arith, only .same-length)) (states-only-differ places rg rg′ only n fit differ)
         (omega (arith, one-id, one-le (eqb (idAt rg k) id))) in
         omega (arith, rest, one-id, ap (λ x. count x ids) (same-ids places rg rg′ only k (omega arith)))
 
@@ -208,5 +168,5 @@ module _ (places n : ℕ) (fit : n ≤ places) where
         let only : HoldersOnly places rg rg′ = released-only places n rg fit long id in
         let one-id : holders (stateAt places rg′ k) ≡ holders (stateAt places rg k) - one (eqb (idAt rg k) id) =
         released-holders places n rg fit long id differ k l in
-        let rest = released-all-holders ids rg′ (omega (arith, only .same-length)) (holders-only-differ places rg rg′ only n fit differ) in
+        let rest = released-all-holders ids rg′ (omega (arith, only .same-length)) (states-only-differ places rg rg′ only n fit differ) in
         omega (arith, rest, one-id, ap (λ x. count x ids) (same-ids places rg rg′ only k (omega arith)))

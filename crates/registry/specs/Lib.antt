@@ -3,6 +3,7 @@ pub mod Words
 pub mod Sound
 pub mod SoundLaws
 pub mod Rules
+pub mod StatesOnly
 pub mod Look
 pub mod Counts
 pub mod Holders
@@ -15,7 +16,7 @@ pub mod RegisteringLaws
 pub mod UnregisteringLaws
 pub mod CollectionLaws
 pub mod Children
-pub mod ChildrenLength
+pub mod ChildrenLaws
 pub mod ChildLists
 pub mod PlaceLists
 pub mod Descent

@@ -9,13 +9,16 @@ use native.Mathlib.Decide.{ℕ-discrete, decLt}
 use native.Mathlib.Omega.{arith}
 use borrow.Author.Tests.{eqb-false, eq-eqb, ne-eqb}
 use lib.Dec.{eqb}
-use lib.ListN.{length, getD, set, length-set}
-use lib.Seq.{getD-set-same, getD-set-other, set-getD}
+use lib.ListN.{length, getD, set}
+use lib.Seq.{set-getD}
 use Rattle.base.specs.Choose.{pick}
-use Rattle.registry.specs.Words.{idAt, objectAt, stateAt, linkAt, recycledAt, revoked, listed, holders}
+use Rattle.base.specs.Members.{In, in-cons}
+use Rattle.base.specs.Sifted.{sifted, sifted-exactly}
+use Rattle.registry.specs.Words.{stateAt, linkAt, revoked, listed, holders}
 use Rattle.registry.specs.Sound.{Linked}
-use Rattle.registry.specs.Rules.{RegisteredRules, RegistryRules, Same, differ-same, issued-same, linked-same, listed-same, short-same, recycled-same}
-use Rattle.registry.specs.PlaceLists.{In, AllBelow, all-below-more, in-cons, all-below-first, all-below-later, all-below-with}
+use Rattle.registry.specs.Rules.{RegisteredRules, RegistryRules, Same, listed-same}
+use Rattle.registry.specs.StatesOnly.{StatesOnly, ByAt, by-keeps, states-only-none, states-only-one, states-only-then, same-ids, same-links, states-only-registered, states-only-recycled}
+use Rattle.registry.specs.PlaceLists.{AllBelow, all-below-more, all-below-first, all-below-later}
 use Rattle.registry.specs.Descent.{descent, unrevokedOf, markedState, marked}
 use Rattle.registry.specs.DescentLaws.{Under, below, descent-below, descent-exactly}
 
@@ -41,88 +44,47 @@ module _ (state : ℕ) where
 -- ---- the words
 
 -- Of the words only the states of these places change, to marked ones.
-pub record OnlyMarked (places : ℕ) (ks rg rg′ : List ℕ) : Type 0 where
-  pub same-length : length rg′ ≡ length rg
-  pub before : (i : ℕ) → i < 2 * places → getD rg′ i 0 ≡ getD rg i 0
-  pub after : (i : ℕ) → 3 * places ≤ i → getD rg′ i 0 ≡ getD rg i 0
-  pub states :
-      (k : ℕ) → (In ks k × (stateAt places rg′ k ≡ markedState (stateAt places rg k))) ⊎ ((¬ In ks k) × (stateAt places rg′ k ≡ stateAt places rg k))
+abbrev pub OnlyMarked : ℕ → List ℕ → List ℕ → List ℕ → Type 0
+OnlyMarked places ks rg rg′ = StatesOnly (ByAt markedState (In ks)) places rg rg′
 
-module _ (places k : ℕ) (rg : List ℕ) (inside : k < places) (long : 5 * places + 1 ≤ length rg) where
-  abbrev place : ℕ
-  place = 2 * places + k
-
-  abbrev one : List ℕ
-  one = set rg place (markedState (stateAt places rg k))
-
-  one-here : stateAt places one k ≡ markedState (stateAt places rg k)
-  one-here = getD-set-same rg place (markedState (stateAt places rg k)) 0 (omega arith)
-
-  one-other : (i : ℕ) → i ≢ place → getD one i 0 ≡ getD rg i 0
-  one-other i other = getD-set-other rg place i (markedState (stateAt places rg k)) 0 other
-
-  -- Marked twice is marked.
-  one-again : (j : ℕ) → markedState (stateAt places one j) ≡ markedState (stateAt places rg j)
-  one-again j =
-      by-cases (ℕ-discrete j k)
-      (λ here. rw (here, one-here) (marked-again _ (marked-revoked (stateAt places rg k))))
-      (λ other. ap markedState (one-other (2 * places + j) (omega arith)))
+-- Of the places k and ks, first k, then the others: marked twice is marked.
+marked-both :
+    (k : ℕ) (ks : List ℕ) (j s s′ s″ : ℕ) → ByAt markedState (λ j. j ≡ k) j s s′ → ByAt markedState (In ks) j s′ s″
+    → ByAt markedState (In (k ∷ ks)) j s s″
+marked-both k ks j s s′ s″ one rest =
+    ⊎-elim
+    (λ (found, e). inl (in-cons k ks j .1 (inr found), e ∙ marked-same one))
+    (λ (none′, e).
+    ⊎-elim
+    (λ (here, e₁). inl (in-cons k ks j .1 (inl (sym here)), e ∙ e₁))
+    (λ (other, e₁). inr (λ found. ⊎-elim (λ h. other (sym h)) none′ (in-cons k ks j .0 found), e ∙ e₁))
+    one)
+    rest
+  where
+    marked-same : ByAt markedState (λ j. j ≡ k) j s s′ → markedState s′ ≡ markedState s
+    marked-same = by-keeps markedState markedState (λ s. marked-again (markedState s) (marked-revoked s)) (λ j. j ≡ k) j s s′
 
 pub marked-only : (places : ℕ) (ks rg : List ℕ) → AllBelow places ks → 5 * places + 1 ≤ length rg → OnlyMarked places ks rg (marked places ks rg)
 unfolding marked
-marked-only places [] rg inside long = record {
-  same-length = refl;
-  before = λ i l. refl;
-  after = λ i l. refl;
-  states = λ k. inr (λ (j, (l, e)). omega arith, refl);
-}
+marked-only places [] rg inside long = states-only-none places (ByAt markedState (In [])) (λ k s. inr (λ (j, (l, e)). omega arith, refl)) rg
 marked-only places (k ∷ ks) rg inside long =
-    let here : k < places = all-below-first places k ks inside in
-    let rg₁ : List ℕ = one places k rg here long in
-    let later = marked-only places ks rg₁ (all-below-later places k ks inside) (omega (arith, length-set rg (2 * places + k) (markedState (stateAt places rg k)))) in
-    record {
-      same-length = later .same-length ∙ length-set rg (2 * places + k) (markedState (stateAt places rg k));
-      before = λ i l. later .before i l ∙ one-other places k rg here long i (omega arith);
-      after = λ i l. later .after i l ∙ one-other places k rg here long i (omega arith);
-      states = λ j.
-          ⊎-elim
-          (λ (found, e). inl (in-cons k ks j .1 (inr found), e ∙ one-again places k rg here long j))
-          (λ (none′, e).
-          by-cases (ℕ-discrete k j)
-          (λ same. inl (in-cons k ks j .1 (inl same), e ∙ rw (← same) (one-here places k rg here long)))
-          (λ other. inr (
-            λ found. ⊎-elim other none′ (in-cons k ks j .0 found),
-            e ∙ one-other places k rg here long (2 * places + j) (omega arith),
-          )))
-          (later .states j);
-    }
+    let rg₁ : List ℕ = set rg (2 * places + k) (markedState (stateAt places rg k)) in
+    let one = states-only-one places markedState k rg (all-below-first places k ks inside) long in
+    states-only-then places (ByAt markedState (λ j. j ≡ k)) (ByAt markedState (In ks)) (ByAt markedState (In (k ∷ ks))) (marked-both k ks)
+    rg rg₁ (marked places ks rg₁) one (marked-only places ks rg₁ (all-below-later places k ks inside) (omega (arith, one .same-length)))
 
-module _ (places : ℕ) (ks rg rg′ : List ℕ) (only : OnlyMarked places ks rg rg′) where
-  pub only-marked-ids : Same places (idAt rg) (idAt rg′)
-  only-marked-ids k l = only .before k (omega arith)
+module _ (places : ℕ) (ks rg rg′ : List ℕ) (only : OnlyMarked places ks rg rg′) (k : ℕ) where
+  pub only-marked-elsewhere : ¬ In ks k → stateAt places rg′ k ≡ stateAt places rg k
+  only-marked-elsewhere none′ = ⊎-elim (λ (found, e). absurd (none′ found)) (λ (_, e). e) (only .states k)
 
-  pub only-marked-objects : Same places (objectAt places rg) (objectAt places rg′)
-  only-marked-objects k l = only .before (places + k) (omega arith)
+  pub only-marked-listed : listed (stateAt places rg′ k) ≡ listed (stateAt places rg k)
+  only-marked-listed = by-keeps listed markedState (λ s. marked-rest s .0) (In ks) k _ _ (only .states k)
 
-  pub only-marked-links : (k : ℕ) → linkAt places rg′ k ≡ linkAt places rg k
-  only-marked-links k = only .after (3 * places + k) (omega arith)
+  pub only-marked-holders : holders (stateAt places rg′ k) ≡ holders (stateAt places rg k)
+  only-marked-holders = by-keeps holders markedState (λ s. marked-rest s .1) (In ks) k _ _ (only .states k)
 
-  pub only-marked-recycled : (k : ℕ) → recycledAt places rg′ k ≡ recycledAt places rg k
-  only-marked-recycled k = only .after (4 * places + k) (omega arith)
-
-  pub only-marked-elsewhere : (k : ℕ) → ¬ In ks k → stateAt places rg′ k ≡ stateAt places rg k
-  only-marked-elsewhere k none′ = ⊎-elim (λ (found, e). absurd (none′ found)) (λ (_, e). e) (only .states k)
-
-  pub only-marked-listed : (k : ℕ) → listed (stateAt places rg′ k) ≡ listed (stateAt places rg k)
-  only-marked-listed k =
-      ⊎-elim (λ (_, e). ap listed e ∙ marked-rest (stateAt places rg k) .0) (λ (_, e). ap listed e) (only .states k)
-
-  pub only-marked-holders : (k : ℕ) → holders (stateAt places rg′ k) ≡ holders (stateAt places rg k)
-  only-marked-holders k =
-      ⊎-elim (λ (_, e). ap holders e ∙ marked-rest (stateAt places rg k) .1) (λ (_, e). ap holders e) (only .states k)
-
-  pub only-marked-revoked : (k : ℕ) → (revoked (stateAt places rg′ k) ≡ 1) ↔ ((revoked (stateAt places rg k) ≡ 1) ⊎ In ks k)
-  only-marked-revoked k =
+  pub only-marked-revoked : (revoked (stateAt places rg′ k) ≡ 1) ↔ ((revoked (stateAt places rg k) ≡ 1) ⊎ In ks k)
+  only-marked-revoked =
       ⊎-elim
       (λ (found, e). (λ gone. inr found, λ either. ap revoked e ∙ marked-revoked (stateAt places rg k)))
       (λ (none′, e). (
@@ -135,16 +97,12 @@ module _ (places : ℕ) (ks rg rg′ : List ℕ) (only : OnlyMarked places ks rg
 
 pub unrevoked-below : (n places : ℕ) (rg ks : List ℕ) → AllBelow n ks → AllBelow n (unrevokedOf places rg ks)
 unfolding unrevokedOf
-unrevoked-below n places rg [] inside = inside
-unrevoked-below n places rg (k ∷ ks) inside =
-    go (eqb (revoked (stateAt places rg k)) 0) (unrevoked-below n places rg ks (all-below-later n k ks inside))
-  where
-    later : List ℕ
-    later = unrevokedOf places rg ks
-
-    go : (b : Bool) → AllBelow n later → AllBelow n (pick b (k ∷ later) later)
-    go true rest = all-below-with n k later (all-below-first n k ks inside) rest
-    go false rest = rest
+unrevoked-below n places rg ks inside = record {
+  below = λ j l.
+      let exactly = sifted-exactly (λ k. eqb (revoked (stateAt places rg k)) 0) ks (getD (unrevokedOf places rg ks) j 0) in
+      let ((i, (u, e)), _) = exactly .0 (j, (l, refl)) in
+      omega (arith, inside .below i u);
+}
 
 -- What is revoked in rg₀ is revoked in rg.
 abbrev Later : ℕ → List ℕ → List ℕ → Type 0
@@ -154,27 +112,25 @@ Later places rg₀ rg = (k : ℕ) → revoked (stateAt places rg₀ k) ≡ 1 →
 marked-later :
     (places : ℕ) (rg₀ ks rg : List ℕ) → Later places rg₀ rg → AllBelow places ks → 5 * places + 1 ≤ length rg
     → marked places (unrevokedOf places rg₀ ks) rg ≡ marked places ks rg
-unfolding marked unrevokedOf
+unfolding marked unrevokedOf sifted
 marked-later places rg₀ [] rg later inside long = refl
 marked-later places rg₀ (k ∷ ks) rg later inside long =
     go (eqb (revoked (stateAt places rg₀ k)) 0) refl
     (marked-later places rg₀ ks rg later rest long)
-    (marked-later places rg₀ ks rg₁ later-still rest (omega (arith, length-set rg (2 * places + k) (markedState (stateAt places rg k)))))
+    (marked-later places rg₀ ks rg₁ later-still rest (omega (arith, one .same-length)))
   where
-    here : k < places
-    here = all-below-first places k ks inside
-
     rest : AllBelow places ks
     rest = all-below-later places k ks inside
 
     rg₁ : List ℕ
-    rg₁ = one places k rg here long
+    rg₁ = set rg (2 * places + k) (markedState (stateAt places rg k))
+
+    one : StatesOnly (ByAt markedState (λ j. j ≡ k)) places rg rg₁
+    one = states-only-one places markedState k rg (all-below-first places k ks inside) long
 
     later-still : Later places rg₀ rg₁
     later-still j gone =
-        by-cases (ℕ-discrete j k)
-        (λ same. rw (same, one-here places k rg here long) (marked-revoked (stateAt places rg k)))
-        (λ other. ap revoked (one-other places k rg here long (2 * places + j) (omega arith)) ∙ later j gone)
+        ⊎-elim (λ (_, e). ap revoked e ∙ marked-revoked (stateAt places rg j)) (λ (_, e). ap revoked e ∙ later j gone) (one .states j)
 
     left : List ℕ
     left = unrevokedOf places rg₀ ks
@@ -235,22 +191,17 @@ module _ (places n : ℕ) (rg : List ℕ) (r : ℕ) (inside : r < n) (fit : n �
       let link′ : ℕ → ℕ = linkAt places gone in
       let only : OnlyMarked places ks rg gone = descent-marked-only (old .linked) in
       let revokes = descent-marked-revoked (old .linked) in
-      let ids : Same n (idAt rg) (idAt gone) = λ k l. only-marked-ids places ks rg gone only k (omega arith) in
-      let links : Same n link link′ = λ k l. only-marked-links places ks rg gone only k in
+      let links : Same n link link′ = λ k l. same-links places rg gone only k in
       record {
-        registered = record {
-          differ = differ-same n (idAt rg) (idAt gone) ids (old .differ);
-          issued = issued-same n (idAt rg) (idAt gone) next ids (old .issued);
-          linked = linked-same n link link′ links (old .linked);
-          has-list =
-              listed-same n link link′ links (stateAt places rg) (stateAt places gone) (old .linked)
-              (λ k l. only-marked-listed places ks rg gone only k) (old .has-list);
-          short = short-same n link link′ links (old .short);
-          cascaded = λ k l p e h.
-              let child : link k ≡ suc p = sym (links k l) ∙ e in
-              revokes k .1
-              (⊎-elim (λ was. inl (old .cascaded k l p child was)) (λ (u, under). inr (l, below k p child under)) (revokes p .0 h));
-        };
-        recycled = recycled-same places n next rg gone ids m (λ j l. only-marked-recycled places ks rg gone only j) (rules .recycled);
-        held = λ k l. rw (only-marked-holders places ks rg gone only k, ids k l) (rules .held k l);
+        registered =
+            states-only-registered places rg gone only n fit next
+            (listed-same n link link′ links (stateAt places rg) (stateAt places gone) (old .linked)
+            (λ k l. only-marked-listed places ks rg gone only k) (old .has-list))
+            (λ k l p e h.
+            let child : link k ≡ suc p = sym (links k l) ∙ e in
+            revokes k .1
+            (⊎-elim (λ was. inl (old .cascaded k l p child was)) (λ (u, under). inr (l, below k p child under)) (revokes p .0 h)))
+            old;
+        recycled = states-only-recycled places rg gone only n fit next m (rules .recycled);
+        held = λ k l. rw (only-marked-holders places ks rg gone only k, same-ids places rg gone only k (omega arith)) (rules .held k l);
       }

@@ -20,7 +20,8 @@ use Rattle.registry.specs.Counts.{children-more}
 use Rattle.registry.specs.Holders.{placeOf}
 use Rattle.registry.specs.HoldersLaws.{place-holds}
 use Rattle.registry.specs.Registering.{registered, withList, listGiven, unregistered}
-use Rattle.registry.specs.Rules.{RegisteredRules, RecycledRules, RegistryRules, Same, differ-same, issued-same, ascend-same, children-same, linked-same, short-same, cascaded-same, recycled-same}
+use Rattle.registry.specs.Rules.{RegisteredRules, RecycledRules, RegistryRules, Same, issued-same, ascend-same, children-same, cascaded-same}
+use Rattle.registry.specs.StatesOnly.{StatesOnly, ByAt, by-keeps, states-only-one, same-ids, same-links, states-only-registered, states-only-recycled}
 
 -- The first n places keep their words, and so do the words behind the columns.
 pub record SamePlaces (places n : ℕ) (rg rg′ : List ℕ) : Type 0 where
@@ -225,33 +226,20 @@ module _ (places p : ℕ) (rg : List ℕ) (fit : p < places) (long : 5 * places 
   abbrev given : List ℕ
   given = listGiven places p rg
 
-  pub length-list-given : length given ≡ length rg
+  pub list-given-only : StatesOnly (ByAt withList (λ k. k ≡ p)) places rg given
   unfolding listGiven
-  length-list-given = length-set rg (2 * places + p) (withList (stateAt places rg p))
-
-  pub list-given-other : (i : ℕ) → i ≢ 2 * places + p → getD given i 0 ≡ getD rg i 0
-  unfolding listGiven
-  list-given-other i other = getD-set-other rg (2 * places + p) i (withList (stateAt places rg p)) 0 other
-
-  state-here : stateAt places given p ≡ withList (stateAt places rg p)
-  unfolding listGiven
-  state-here = getD-set-same rg (2 * places + p) (withList (stateAt places rg p)) 0 (omega arith)
-
-  state-other : (k : ℕ) → k ≢ p → stateAt places given k ≡ stateAt places rg k
-  state-other k other = list-given-other (2 * places + k) (omega arith)
+  list-given-only = states-only-one places withList p rg fit long
 
   pub list-given-state : OnlyListed places p rg given
   list-given-state = record {
-    revoked-stays = λ k.
-        by-cases (ℕ-discrete k p)
-        (λ here. rw (here, state-here) (with-list-rest (stateAt places rg p) .0))
-        (λ other. rw (state-other k other));
-    holders-stay = λ k.
-        by-cases (ℕ-discrete k p)
-        (λ here. rw (here, state-here) (with-list-rest (stateAt places rg p) .1))
-        (λ other. rw (state-other k other));
-    listed-here = rw state-here (with-list-flag (stateAt places rg p));
-    listed-stays = λ k other. rw (state-other k other);
+    revoked-stays = λ k. by-keeps revoked withList (λ s. with-list-rest s .0) (λ k. k ≡ p) k _ _ (list-given-only .states k);
+    holders-stay = λ k. by-keeps holders withList (λ s. with-list-rest s .1) (λ k. k ≡ p) k _ _ (list-given-only .states k);
+    listed-here =
+        ⊎-elim
+        (λ (_, e). ap listed e ∙ with-list-flag (stateAt places rg p))
+        (λ (other, _). absurd (other refl))
+        (list-given-only .states p);
+    listed-stays = λ k other. ⊎-elim (λ (here, _). absurd (other here)) (λ (_, e). ap listed e) (list-given-only .states k);
   }
 
   pub list-given-keeps :
@@ -260,23 +248,18 @@ module _ (places p : ℕ) (rg : List ℕ) (fit : p < places) (long : 5 * places 
       let old : RegisteredRules places n next rg = rules .registered in
       let link : ℕ → ℕ = linkAt places rg in
       let link′ : ℕ → ℕ = linkAt places given in
-      let ids : Same n (idAt rg) (idAt given) = λ k l. list-given-other k (omega arith) in
-      let links : Same n link link′ = λ k l. list-given-other (3 * places + k) (omega arith) in
+      let links : Same n link link′ = λ k l. same-links places rg given list-given-only k in
       record {
-        registered = record {
-          differ = differ-same n (idAt rg) (idAt given) ids (old .differ);
-          issued = issued-same n (idAt rg) (idAt given) next ids (old .issued);
-          linked = linked-same n link link′ links (old .linked);
-          has-list = λ k l q e.
-              by-cases (ℕ-discrete q p)
-              (λ here. rw here (list-given-state .listed-here))
-              (λ other. list-given-state .listed-stays q other ∙ old .has-list k l q (sym (links k l) ∙ e));
-          short = short-same n link link′ links (old .short);
-          cascaded =
-              cascaded-same n link link′ links (stateAt places rg) (stateAt places given) (old .linked)
-              (λ k l. list-given-state .revoked-stays k) (old .cascaded);
-        };
-        recycled =
-            recycled-same places n next rg given ids m (λ j l. list-given-other (4 * places + j) (omega arith)) (rules .recycled);
-        held = λ k l. rw (list-given-state .holders-stay k, ids k l) (rules .held k l);
+        registered =
+            states-only-registered places rg given list-given-only n registered-fit next
+            (λ k l q e.
+            by-cases (ℕ-discrete q p)
+            (λ here. rw here (list-given-state .listed-here))
+            (λ other. list-given-state .listed-stays q other ∙ old .has-list k l q (sym (links k l) ∙ e)))
+            (cascaded-same n link link′ links (stateAt places rg) (stateAt places given) (old .linked)
+            (λ k l. list-given-state .revoked-stays k) (old .cascaded))
+            old;
+        recycled = states-only-recycled places rg given list-given-only n registered-fit next m (rules .recycled);
+        held = λ k l.
+            rw (list-given-state .holders-stay k, same-ids places rg given list-given-only k (omega arith)) (rules .held k l);
       }

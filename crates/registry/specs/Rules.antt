@@ -78,24 +78,41 @@ module _ (n : ℕ) (link link′ : ℕ → ℕ) (same : Same n link link′) whe
         flag k l ∙ cascaded k l p child (sym (flag p (parent-below k p l child)) ∙ gone)
 
 module _ (places n next : ℕ) (rg rg′ : List ℕ) (ids : Same n (idAt rg) (idAt rg′)) where
+  abbrev link : ℕ → ℕ
+  link = linkAt places rg
+
+  abbrev link′ : ℕ → ℕ
+  link′ = linkAt places rg′
+
+  abbrev state : ℕ → ℕ
+  state = stateAt places rg
+
+  abbrev state′ : ℕ → ℕ
+  state′ = stateAt places rg′
+
+  -- With ids and links the same, only what is said of states is left to show.
+  pub registered-links :
+      Same n (linkAt places rg) (linkAt places rg′)
+      → Listed n (linkAt places rg′) (stateAt places rg′) → Cascaded n (linkAt places rg′) (stateAt places rg′)
+      → RegisteredRules places n next rg → RegisteredRules places n next rg′
+  registered-links links has-list cascaded rules = record {
+    differ = differ-same n (idAt rg) (idAt rg′) ids (rules .differ);
+    issued = issued-same n (idAt rg) (idAt rg′) next ids (rules .issued);
+    linked = linked-same n link link′ links (rules .linked);
+    has-list = has-list;
+    short = short-same n link link′ links (rules .short);
+    cascaded = cascaded;
+  }
+
   pub registered-same :
       Same n (linkAt places rg) (linkAt places rg′)
       → Same n (λ k. listed (stateAt places rg k)) (λ k. listed (stateAt places rg′ k))
       → Same n (λ k. revoked (stateAt places rg k)) (λ k. revoked (stateAt places rg′ k))
       → RegisteredRules places n next rg → RegisteredRules places n next rg′
   registered-same links lists flags rules =
-      let link : ℕ → ℕ = linkAt places rg in
-      let link′ : ℕ → ℕ = linkAt places rg′ in
-      let state : ℕ → ℕ = stateAt places rg in
-      let state′ : ℕ → ℕ = stateAt places rg′ in
-      record {
-        differ = differ-same n (idAt rg) (idAt rg′) ids (rules .differ);
-        issued = issued-same n (idAt rg) (idAt rg′) next ids (rules .issued);
-        linked = linked-same n link link′ links (rules .linked);
-        has-list = listed-same n link link′ links state state′ (rules .linked) lists (rules .has-list);
-        short = short-same n link link′ links (rules .short);
-        cascaded = cascaded-same n link link′ links state state′ (rules .linked) flags (rules .cascaded);
-      }
+      registered-links links
+      (listed-same n link link′ links state state′ (rules .linked) lists (rules .has-list))
+      (cascaded-same n link link′ links state state′ (rules .linked) flags (rules .cascaded)) rules
 
   pub recycled-same :
       (m : ℕ) → Same m (recycledAt places rg) (recycledAt places rg′) → RecycledRules places n m next rg → RecycledRules places n m next rg′

@@ -2,25 +2,23 @@
 -- differ; and of some pairs exactly those that it has not are absent.
 use mathlib.Core.Path.{_≡_, refl, sym, ap, _∙_}
 use mathlib.Core.Logic.{_↔_, _⊎_, inl, inr, ⊎-elim, by-cases}
-use mathlib.Core.Bool.{Bool, true, false, true≢false}
+use mathlib.Core.Bool.{Bool, true, false, not, true≢false}
 use mathlib.Core.List.{List, [], _∷_, _++_}
-use Prim.Native.Nat.{ℕ, zero, suc, _+_, _-_, _<_, _≤_}
+use Prim.Native.Nat.{ℕ, _+_, _-_, _<_, _≤_}
 use native.Mathlib.Decide.{decLt}
 use native.Mathlib.Omega.{arith}
-use borrow.Author.Tests.{eqb-true, eq-eqb}
+use borrow.Author.Tests.{eqb-true, eq-eqb, not-true}
 use lib.Dec.{eqb, ltb}
 use lib.ListN.{length, take, drop, length-append, length-take, length-drop, List·getD-append}
 use lib.Seq.{length-take-le, take-at, drop-at, getD-take, getD-drop}
-use Rattle.base.specs.Choose.{pick}
+use Rattle.base.specs.Choose.{pick, refuted}
 use Rattle.base.specs.Distinct.{Differ, Among}
 use Rattle.base.specs.FirstLaws.{first-some-exactly, first-ext}
+use Rattle.base.specs.Members.{In, Once}
+use Rattle.base.specs.Sifted.{sifted, sifted-exactly, sifted-once, sifted-ext}
 use Rattle.revocation.specs.Words.{pairAt}
 use Rattle.revocation.specs.Log.{logHas, absentOf, appended}
 use Rattle.revocation.specs.Sound.{Pairs}
-
--- It is one of these pairs.
-abbrev pub OneOf : List ℕ → ℕ → Type 0
-OneOf pairs pair = Among (length pairs) (pairAt pairs) pair
 
 pub has-exactly : (n : ℕ) (lg : List ℕ) (pair : ℕ) → (logHas n lg pair ≡ true) ↔ Among n (pairAt lg) pair
 unfolding logHas
@@ -32,12 +30,8 @@ has-exactly n lg pair = (
 pub lacks-exactly : (n : ℕ) (lg : List ℕ) (pair : ℕ) → (logHas n lg pair ≡ false) ↔ (¬ Among n (pairAt lg) pair)
 lacks-exactly n lg pair = (
   λ no′ among. true≢false (sym (has-exactly n lg pair .1 among) ∙ no′),
-  λ none. go none (logHas n lg pair) refl,
+  λ none. refuted (logHas n lg pair) (λ h. none (has-exactly n lg pair .0 h)),
 )
-  where
-    go : ¬ Among n (pairAt lg) pair → (b : Bool) → logHas n lg pair ≡ b → logHas n lg pair ≡ false
-    go none true e = absurd (none (has-exactly n lg pair .0 e))
-    go none false e = e
 
 -- The log goes by its first n pairs alone.
 module _ (n : ℕ) (lg : List ℕ) (fits : n ≤ length lg) where
@@ -49,10 +43,11 @@ module _ (n : ℕ) (lg : List ℕ) (fits : n ≤ length lg) where
 
   pub absent-take : (pairs : List ℕ) → absentOf (length (take n lg)) (take n lg) pairs ≡ absentOf n lg pairs
   unfolding absentOf
-  absent-take [] = refl
-  absent-take (pair ∷ pairs) = rw (has-take pair, absent-take pairs)
+  absent-take =
+      sifted-ext (λ pair. not (logHas (length (take n lg)) (take n lg) pair)) (λ pair. not (logHas n lg pair))
+      (λ pair. ap not (has-take pair))
 
-  pub differ-taken : Differ n (pairAt lg) → Differ (length (take n lg)) (pairAt (take n lg))
+  pub differ-taken : Differ n (pairAt lg) → Once (take n lg)
   differ-taken differ =
       rw (length-take-le n lg fits)
       (λ j l i u e. differ j l i u (sym (getD-take n lg i 0 (omega arith)) ∙ e ∙ getD-take n lg j 0 l))
@@ -87,7 +82,8 @@ module _ (n : ℕ) (pairs lg : List ℕ) (fits : n + length pairs ≤ length lg)
   where-from : (k : ℕ) → k < n + length pairs → (k < n) ⊎ ((j : ℕ) × ((j < length pairs) × (n + j ≡ k)))
   where-from k l = by-cases (decLt k n) inl (λ u. inr (k - n, (omega arith, omega arith)))
 
-  pub has-appended : (pair : ℕ) → (logHas (n + length pairs) (appended n pairs lg) pair ≡ true) ↔ ((logHas n lg pair ≡ true) ⊎ OneOf pairs pair)
+  pub has-appended :
+      (pair : ℕ) → (logHas (n + length pairs) (appended n pairs lg) pair ≡ true) ↔ ((logHas n lg pair ≡ true) ⊎ In pairs pair)
   has-appended pair = (
     λ h.
         let (k, (l, e)) = has-exactly (n + length pairs) (appended n pairs lg) pair .0 h in
@@ -111,7 +107,7 @@ module _ (n : ℕ) (pairs lg : List ℕ) (fits : n + length pairs ≤ length lg)
       (where-from k l)
 
   pub differ-appended :
-      Differ n (pairAt lg) → Differ (length pairs) (pairAt pairs) → ((pair : ℕ) → OneOf pairs pair → logHas n lg pair ≡ false)
+      Differ n (pairAt lg) → Once pairs → ((pair : ℕ) → In pairs pair → logHas n lg pair ≡ false)
       → Differ (n + length pairs) (pairAt (appended n pairs lg))
   differ-appended old new absent j l i u e =
       ⊎-elim
@@ -127,80 +123,25 @@ module _ (n : ℕ) (pairs lg : List ℕ) (fits : n + length pairs ≤ length lg)
       (where-from i (omega arith)))
       (where-from j l)
 
--- ---- a pair before others
-
-module _ (x : ℕ) (xs : List ℕ) (m : ℕ) where
-  among-more : (pair : ℕ) → Among m (pairAt xs) pair → Among (suc m) (pairAt (x ∷ xs)) pair
-  among-more pair (k, (l, e)) = (suc k, (omega arith, e))
-
-  among-split : (pair : ℕ) → Among (suc m) (pairAt (x ∷ xs)) pair → (x ≡ pair) ⊎ Among m (pairAt xs) pair
-  among-split pair (zero, (l, e)) = inl e
-  among-split pair (suc k, (l, e)) = inr (k, (omega arith, e))
-
-  differ-more : Differ m (pairAt xs) → ¬ Among m (pairAt xs) x → Differ (suc m) (pairAt (x ∷ xs))
-  differ-more differ new (suc j) l zero u e = new (j, (omega arith, sym e))
-  differ-more differ new (suc j) l (suc i) u e = differ j (omega arith) i (omega arith) e
-  differ-more differ new zero l i u e = absurd (omega arith)
-
-  differ-rest : Differ (suc m) (pairAt (x ∷ xs)) → Differ m (pairAt xs)
-  differ-rest differ j l i u e = differ (suc j) (omega arith) (suc i) (omega arith) e
-
-  differ-first : Differ (suc m) (pairAt (x ∷ xs)) → ¬ Among m (pairAt xs) x
-  differ-first differ (k, (l, e)) = differ (suc k) (omega arith) 0 (omega arith) (sym e)
-
 -- ---- the absent ones
 
 module _ (n : ℕ) (lg : List ℕ) where
-  pub absent-one : (pair : ℕ) → absentOf n lg (pair ∷ []) ≡ pick (logHas n lg pair) [] (pair ∷ [])
-  unfolding absentOf
+  pub absent-one : (pair : ℕ) → absentOf n lg (pair ∷ []) ≡ pick (not (logHas n lg pair)) (pair ∷ []) []
+  unfolding absentOf sifted
   absent-one pair = refl
 
   -- They are those of the pairs that the log has not.
-  pub absent-exactly : (pairs : List ℕ) (pair : ℕ) → OneOf (absentOf n lg pairs) pair ↔ (OneOf pairs pair × (logHas n lg pair ≡ false))
+  pub absent-exactly : (pairs : List ℕ) (pair : ℕ) → In (absentOf n lg pairs) pair ↔ (In pairs pair × (logHas n lg pair ≡ false))
   unfolding absentOf
-  absent-exactly [] pair = (λ (k, (l, e)). absurd (omega arith), λ ((k, (l, e)), no′). absurd (omega arith))
-  absent-exactly (x ∷ pairs) pair = go (logHas n lg x) refl (absent-exactly pairs pair)
-    where
-      later : List ℕ
-      later = absentOf n lg pairs
-
-      go : (b : Bool) → logHas n lg x ≡ b → OneOf later pair ↔ (OneOf pairs pair × (logHas n lg pair ≡ false))
-          → OneOf (pick b later (x ∷ later)) pair ↔ (OneOf (x ∷ pairs) pair × (logHas n lg pair ≡ false))
-      go true has ih = (
-        λ a. let (among, no′) = ih .0 a in (among-more x pairs (length pairs) pair among, no′),
-        λ (a, no′).
-            ⊎-elim
-            (λ e. absurd (true≢false (sym has ∙ ap (logHas n lg) e ∙ no′)))
-            (λ among. ih .1 (among, no′))
-            (among-split x pairs (length pairs) pair a),
-      )
-      go false lacks ih = (
-        λ a.
-            ⊎-elim
-            (λ e. ((0, (omega arith, e)), ap (logHas n lg) (sym e) ∙ lacks))
-            (λ r. let (among, no′) = ih .0 r in (among-more x pairs (length pairs) pair among, no′))
-            (among-split x later (length later) pair a),
-        λ (a, no′).
-            ⊎-elim
-            (λ e. (0, (omega arith, e)))
-            (λ among. among-more x later (length later) pair (ih .1 (among, no′)))
-            (among-split x pairs (length pairs) pair a),
+  absent-exactly pairs pair =
+      let exactly = sifted-exactly (λ pair. not (logHas n lg pair)) pairs pair in (
+        λ found. let (among, lacks) = exactly .0 found in (among, not-true (logHas n lg pair) lacks),
+        λ (among, lacks). exactly .1 (among, ap not lacks),
       )
 
-  pub absent-differ : (pairs : List ℕ) → Differ (length pairs) (pairAt pairs) → Differ (length (absentOf n lg pairs)) (pairAt (absentOf n lg pairs))
+  pub absent-differ : (pairs : List ℕ) → Once pairs → Once (absentOf n lg pairs)
   unfolding absentOf
-  absent-differ [] differ = differ
-  absent-differ (x ∷ pairs) differ = go (logHas n lg x) (absent-differ pairs (differ-rest x pairs (length pairs) differ))
-    where
-      later : List ℕ
-      later = absentOf n lg pairs
-
-      go : (b : Bool) → Differ (length later) (pairAt later)
-          → Differ (length (pick b later (x ∷ later))) (pairAt (pick b later (x ∷ later)))
-      go true ih = ih
-      go false ih =
-          differ-more x later (length later) ih
-          (λ among. differ-first x pairs (length pairs) differ (absent-exactly pairs x .0 among .0))
+  absent-differ = sifted-once (λ pair. not (logHas n lg pair))
 
   pub absent-pairs : (pairs : List ℕ) → Pairs (length pairs) (pairAt pairs) → Pairs (length (absentOf n lg pairs)) (pairAt (absentOf n lg pairs))
   absent-pairs pairs coded k l =
@@ -218,7 +159,8 @@ joinedCount n pairs lg = n + length (absentOf n lg pairs)
 
 module _ (n : ℕ) (pairs lg : List ℕ) (fits : joinedCount n pairs lg ≤ length lg) where
   -- It has what it had, and each of the pairs.
-  pub has-joined : (pair : ℕ) → (logHas (joinedCount n pairs lg) (joined n pairs lg) pair ≡ true) ↔ ((logHas n lg pair ≡ true) ⊎ OneOf pairs pair)
+  pub has-joined :
+      (pair : ℕ) → (logHas (joinedCount n pairs lg) (joined n pairs lg) pair ≡ true) ↔ ((logHas n lg pair ≡ true) ⊎ In pairs pair)
   has-joined pair = (
     λ h.
         ⊎-elim inl (λ among. inr (absent-exactly n lg pairs pair .0 among .0))
@@ -228,11 +170,11 @@ module _ (n : ℕ) (pairs lg : List ℕ) (fits : joinedCount n pairs lg ≤ leng
         (⊎-elim inl (λ among. sort among (logHas n lg pair) refl) h),
   )
     where
-      sort : OneOf pairs pair → (b : Bool) → logHas n lg pair ≡ b → (logHas n lg pair ≡ true) ⊎ OneOf (absentOf n lg pairs) pair
+      sort : In pairs pair → (b : Bool) → logHas n lg pair ≡ b → (logHas n lg pair ≡ true) ⊎ In (absentOf n lg pairs) pair
       sort among true e = inl e
       sort among false e = inr (absent-exactly n lg pairs pair .1 (among, e))
 
-  pub differ-joined : Differ n (pairAt lg) → Differ (length pairs) (pairAt pairs) → Differ (joinedCount n pairs lg) (pairAt (joined n pairs lg))
+  pub differ-joined : Differ n (pairAt lg) → Once pairs → Differ (joinedCount n pairs lg) (pairAt (joined n pairs lg))
   differ-joined old differ =
       differ-appended n (absentOf n lg pairs) lg fits old (absent-differ n lg pairs differ)
       (λ pair among. absent-exactly n lg pairs pair .0 among .1)

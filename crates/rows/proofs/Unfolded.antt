@@ -3,6 +3,7 @@ use Rattle.base.specs.Arith.{nextPower}
 use Rattle.base.specs.Below.{all, first, firstFrom, sum}
 use Rattle.base.specs.Choose.{when}
 use Rattle.base.specs.Distinct.{isNew, differTest}
+use Rattle.base.specs.Sifted.{sifted}
 use Rattle.base.specs.Written.{written}
 use Rattle.delegation_calls.specs.Delegation.{offeredFrom, withId, withRoom, delegateOut}
 use Rattle.manager_calls.specs.Admit.{admitted}
@@ -41,7 +42,7 @@ use Rattle.world.specs.Regions.{widthOf, lengthFor, startOf, onEach}
 use Rattle.world.specs.Sound.{soundTest, headTest, countsTest, idsTest, spacesTest, holdersTest, loggedTest, queuesTest, hasEntry, spacesWith}
 
 unfoldable pub base : Unit {0}
-unfolding nextPower all first firstFrom sum when isNew differTest written
+unfolding nextPower all first firstFrom sum when isNew differTest sifted written
 base = tt
 
 unfoldable pub walks : Unit {0}

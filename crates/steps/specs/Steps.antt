@@ -1,7 +1,8 @@
 -- What each step leaves of the memory, and what it answers where that is not the structure's own answer.
 use mathlib.Core.Bool.{Bool, true, false}
 use mathlib.Core.List.{List}
-use Prim.Native.Nat.{ℕ, _+_, _-_, _%_, _^_}
+use mathlib.Core.Path.{_≡_}
+use Prim.Native.Nat.{ℕ, suc, _+_, _-_, _%_, _^_}
 use lib.Dec.{eqb, ltb}
 use lib.ListN.{length, getD, set}
 use Rattle.answers.specs.Number.{numberOf}
@@ -150,6 +151,10 @@ unfoldable pub collectStep : Numbers → ℕ → List ℕ → List ℕ
 collectStep d p mem =
     let n = registeredOf mem in
     set (onRegion d registry (λ rg. collected (d .places) p n rg .words) mem) 11 (collected (d .places) p n (view d registry mem) .left)
+
+-- The id x is a child of the id y.
+abbrev pub ChildOf : Numbers → List ℕ → ℕ → ℕ → Type 0
+ChildOf d mem x y = links d mem (placeIn d mem x) ≡ suc (placeIn d mem y)
 
 -- How many children place p has.
 abbrev pub childrenOf : Numbers → List ℕ → ℕ → ℕ

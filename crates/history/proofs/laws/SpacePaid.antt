@@ -1,8 +1,8 @@
 -- What each change of a space pays for its moves: an accepted entry pays 3, a copy 3 for each of its entries, and these cover the moves and
 -- what the table's potential rises by; no other change raises it.
-use mathlib.Core.List.{List, [], _∷_}
+use mathlib.Core.List.{List}
 use mathlib.Core.Path.{_≡_, refl, ap}
-use Prim.Native.Nat.{ℕ, suc, _+_, _*_, _≤_}
+use Prim.Native.Nat.{ℕ, _+_, _*_, _≤_}
 use native.Mathlib.Omega.{arith}
 use lib.Dec.{eqb}
 use lib.ListN.{length}
@@ -10,7 +10,7 @@ use Rattle.answers.specs.Number.{numberOf}
 use Rattle.base.specs.Below.{one}
 use Rattle.space.specs.Change.{InsertOut, insertOut, removedFound, removedToken, cleared, nextGeneration}
 use Rattle.space.specs.Copy.{copiedTable, copiedSpace}
-use Rattle.space.specs.Ids.{idsOf, entryIds}
+use Rattle.space.specs.Ids.{ids-of-length, entryIds}
 use Rattle.space.specs.Lookup.{exactly, countedAt, counted}
 use Rattle.space.specs.Sound.{SpaceOf}
 use Rattle.space.specs.Words.{tableOf, slotWords}
@@ -75,11 +75,6 @@ module _ (most : ℕ) (sp : List ℕ) (s : SpaceOf most sp) where
 
 -- ---- a copy, of any sound space, also the target itself
 
-same-count : (es : List CapabilityEntry) → length (idsOf es) ≡ length es
-unfolding idsOf
-same-count [] = refl
-same-count (e ∷ es) = ap suc (same-count es)
-
 pub copy-paid :
     (most : ℕ) (source target : List ℕ) → SpaceOf most source → SpaceOf most target
     → copiedTable source target .moved + potentialOf (copiedSpace source target) ≤ 3 * length (entryIds source)
@@ -90,6 +85,6 @@ copy-paid most source target s t =
       arith,
       ap shown (view-copied source target (fits most target t)),
       copy-pays most ws (tableOf source) (slotWords target) (s .sound .table) (long most target t),
-      same-count (liveEntries ws 0 (tableOf source .slots)),
+      ids-of-length (liveEntries ws 0 (tableOf source .slots)),
       live-count most ws (tableOf source) (s .sound .table),
     )

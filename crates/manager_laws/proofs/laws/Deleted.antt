@@ -16,7 +16,7 @@ use Rattle.registry.specs.UnregisteringLaws.{unregistered-ids, unregistered-id,
 use Rattle.registry.specs.Without.{past, rank, past-rank, rank-inside}
 use Rattle.registry.specs.Words.{idAt, objectAt, stateAt, linkAt}
 use Rattle.steps.specs.Replies.{Left}
-use Rattle.steps.specs.Steps.{spaceOf, placeIn, objects, unregisterStep, recycleStep}
+use Rattle.steps.specs.Steps.{spaceOf, placeIn, ChildOf, objects, unregisterStep, recycleStep}
 use Rattle.steps.specs.declared.Reply.{Reply}
 use Rattle.steps.proofs.laws.RegistryChanged.{RegistryChanged}
 use Rattle.steps.proofs.laws.RegistrySteps.{unregister-step, unregister-step-kept, recycle-step, add-step}
@@ -34,10 +34,6 @@ use Rattle.manager_laws.proofs.laws.Ways.{deleted, delete-by-cases}
 
 abbrev pub Registered : Numbers → List ℕ → ℕ → Type 0
 Registered d mem x = placeIn d mem x < registeredOf mem
-
--- x is a child of y.
-abbrev pub ChildOf : Numbers → List ℕ → ℕ → ℕ → Type 0
-ChildOf d mem x y = links d mem (placeIn d mem x) ≡ suc (placeIn d mem y)
 
 pub record DeletedAlone (d : Numbers) (id : ℕ) (mem after : List ℕ) : Type 0 where
   pub exactly : (x : ℕ) → Registered d after x ↔ (Registered d mem x × (x ≢ id))

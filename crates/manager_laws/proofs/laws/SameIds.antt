@@ -5,8 +5,8 @@ use Prim.Native.Nat.{ℕ, _+_, _*_, _^_, _≤_, _<_}
 use native.Mathlib.Omega.{arith}
 use lib.ListN.{length}
 use Rattle.registry.specs.CollectionLaws.{collected-before}
-use Rattle.registry.specs.HoldersLaws.{same-recycled}
-use Rattle.registry.specs.RegisteringLaws.{registered-other, list-given-other}
+use Rattle.registry.specs.RegisteringLaws.{registered-other, list-given-only}
+use Rattle.registry.specs.StatesOnly.{same-recycled}
 use Rattle.registry.specs.UnregisteringLaws.{unregistered-before}
 use Rattle.registry.specs.Words.{recycledAt}
 use Rattle.steps.specs.Steps.{lookupStep, insertStep, registerStep, listStep, unregisterStep, collectStep, addStep}
@@ -82,7 +82,7 @@ module _ (d : Numbers) (mem : List ℕ) (sound : SoundAt d mem) where
   list-ids p inside =
       let changed = list-step d mem sound p inside in
       only-columns d mem _ _ _ _ changed (omega arith) (changed .new-word)
-      (λ j. list-given-other (d .places) p rg inside long (4 * d .places + j) (omega arith))
+      (same-recycled (d .places) rg _ (list-given-only (d .places) p rg inside long))
 
   pub unregister-ids : (k : ℕ) → k < registeredOf mem → SameIds d mem (unregisterStep d k mem)
   unregister-ids k inside =

@@ -10,7 +10,8 @@ use lib.Bits.{and-le-r}
 use lib.ListN.{length, getD}
 use Rattle.answers.specs.Number.{numberOf}
 use Rattle.answers.specs.declared.Answer.the-variants.{Done}
-use Rattle.registry.specs.HoldersLaws.{HoldersOnly, same-ids, same-objects, same-links, place-is}
+use Rattle.registry.specs.HoldersLaws.{HoldersOnly, place-is}
+use Rattle.registry.specs.StatesOnly.{same-ids, same-objects, same-links}
 use Rattle.registry.specs.RegisteringLaws.{NewPlace, registered-new}
 use Rattle.registry.specs.Words.{revoked, listed}
 use Rattle.space.specs.Change.{insertOut}
@@ -107,7 +108,7 @@ module _ (d : Numbers) (mem : List ℕ) (id object link : ℕ) (reg : Registrati
         (same-ids (d .places) _ _ only-holders n (reg .room) ∙ new-place .new-id)
 
     no-flags : states d after n % 4 ≡ 0
-    no-flags = only-holders .flags n (reg .room) ∙ ap (λ state. state % 4) (new-place .new-state)
+    no-flags = only-holders .states n ∙ ap (λ state. state % 4) (new-place .new-state)
 
     -- The next id and the recycled ones are as they were.
     pub admitted-ids : SameIds d mem (addStep i 1 (insertStep d s (newEntry token object rights) (registerStep d id object link mem)))
@@ -125,7 +126,7 @@ module _ (d : Numbers) (mem : List ℕ) (id object link : ℕ) (reg : Registrati
       unrevoked = rw at-place (omega (arith, no-flags));
       no-list = rw at-place (omega (arith, no-flags));
       object = rw at-place (same-objects (d .places) _ _ only-holders n (reg .room) ∙ new-place .new-object);
-      parent = rw at-place (same-links (d .places) _ _ only-holders n (reg .room) ∙ new-place .new-link);
+      parent = rw at-place (same-links (d .places) _ _ only-holders n ∙ new-place .new-link);
       found =
           ap (λ sp. lookedUp sp token .got) (counted .same-space s valid ∙ step .here)
           ∙ inserted-is-found (d .most) (spaceOf d s with-id) (space-of d with-id there s valid) e fits

@@ -12,7 +12,8 @@ use Rattle.base.specs.Below.{one}
 use Rattle.base.specs.SumLaws.{sum-const-zero}
 use Rattle.registry.specs.CollectionLaws.{collected-parent}
 use Rattle.registry.specs.HoldersLaws.{place-holds, place-is}
-use Rattle.registry.specs.RegisteringLaws.{Parent, no-parent, registered-new, list-given-other, list-given-state}
+use Rattle.registry.specs.RegisteringLaws.{Parent, no-parent, registered-new, list-given-only, list-given-state}
+use Rattle.registry.specs.StatesOnly.{same-ids, same-links}
 use Rattle.registry.specs.Rules.{children-same}
 use Rattle.registry.specs.Words.{idAt, revoked, childOf, children}
 use Rattle.steps.specs.Steps.{newEntry, insertStep, takenId, takeStep, placeIn, registerStep, listStep, unregisterStep, recycleStep, collectStep, childrenOf, addStep}
@@ -162,7 +163,7 @@ module _ (d : Numbers) (mem : List ℕ) (sound : SoundAt d mem) where
           room = λ q e.
               rw (← (pred-same e))
               (rw
-              (children-same n (links d mem) _ (λ k l. list-given-other (d .places) p rg below long (3 * d .places + k) (omega arith)) p)
+              (children-same n (links d mem) _ (λ k l. same-links (d .places) rg _ (list-given-only (d .places) p rg below long) k) p)
               few);
           unrevoked = λ q e. rw (← (pred-same e)) (only .revoked-stays p ∙ unrevoked);
         })
@@ -184,7 +185,7 @@ module _ (d : Numbers) (mem : List ℕ) (sound : SoundAt d mem) where
             unregistered = λ k l e.
                 let u : k < n = rw (changed .same-word 11 (omega arith) (omega arith)) at l in
                 h .free .unregistered k u
-                (sym (list-given-other (d .places) p rg below long k (omega (arith, sound .registered-fit)))
+                (sym (same-ids (d .places) rg _ (list-given-only (d .places) p rg below long) k (omega (arith, sound .registered-fit)))
                 ∙ sym (ap (λ ws. idAt ws k) (changed .new-registry)) ∙ e);
             not-recycled = λ k l e. h .free .not-recycled k (rw (same .same-count) at l) (sym (same .same-recycled k) ∙ e);
           };

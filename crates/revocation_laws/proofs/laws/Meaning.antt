@@ -10,10 +10,10 @@ use lib.ListN.{length, getD, take}
 use Rattle.answers.specs.Number.{numberOf}
 use Rattle.answers.specs.declared.Answer.the-variants.{Done}
 use Rattle.base.specs.Distinct.{Differ}
+use Rattle.base.specs.Members.{In}
 use Rattle.registry.specs.DescentLaws.{Under}
 use Rattle.registry.specs.Words.{revoked, listed, holders}
 use Rattle.revocation.specs.Log.{pairOf, logHas}
-use Rattle.revocation.specs.LogLaws.{OneOf}
 use Rattle.revocation_steps.specs.Revocation.{cascade, cascadeIds}
 use Rattle.revocation_steps.proofs.laws.Cascade.{cascade-exactly, under-revoked, cascade-ids-exactly}
 use Rattle.revocation_steps.proofs.laws.CascadeSteps.{revoke-step-kept, revoke-step-space, revoke-step-word, revoke-step-epoch, revoke-step-statistic}
@@ -98,7 +98,7 @@ module _ (d : Numbers) (mem : List ℕ) (sound : SoundAt d mem) (r : ℕ) (insid
     log-once = sound .pairs-differ;
   }
 
-  newly-exactly : (pair : ℕ) → OneOf (cascadeIds d mem r) pair ↔ NewlyRevoked d mem r pair
+  newly-exactly : (pair : ℕ) → In (cascadeIds d mem r) pair ↔ NewlyRevoked d mem r pair
   newly-exactly pair =
       let exactly = cascade-ids-exactly d mem sound r inside pair in (
         λ one.

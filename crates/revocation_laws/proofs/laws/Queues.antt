@@ -14,7 +14,7 @@ use Rattle.answers.specs.Number.{numberOf}
 use Rattle.answers.specs.declared.Answer.the-variants.{Done}
 use Rattle.base.specs.Choose.{pick}
 use Rattle.base.specs.Written.{written}
-use Rattle.registry.specs.ChildrenLength.{ids-at-length}
+use Rattle.registry.specs.ChildrenLaws.{ids-at-length}
 use Rattle.revocation.specs.NoticesLaws.{lastWords, length-notices}
 use Rattle.revocation.specs.Queue.{notices}
 use Rattle.revocation_steps.specs.Revocation.{queueFor, cascade, cascadeIds}

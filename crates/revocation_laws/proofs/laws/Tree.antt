@@ -10,17 +10,16 @@ use lib.ListN.{length, getD, drop, length-drop}
 use lib.Seq.{getD-drop}
 use Rattle.answers.specs.Number.{numberOf}
 use Rattle.answers.specs.declared.Answer.the-variants.{Done}
-use Rattle.base.specs.Distinct.{Differ}
+use Rattle.base.specs.Members.{In, Once}
 use Rattle.base.specs.Written.{written}
 use Rattle.registry.specs.Children.{idsAt}
-use Rattle.registry.specs.ChildrenLength.{ids-at-length}
+use Rattle.registry.specs.ChildrenLaws.{ids-at-length, ids-at, ids-at-differ}
 use Rattle.registry.specs.Descent.{descent}
-use Rattle.registry.specs.DescentLaws.{Once, descent-below, descent-once, descent-first, descent-parents-first, descent-exactly}
+use Rattle.registry.specs.DescentLaws.{descent-below, descent-once, descent-first, descent-parents-first, descent-exactly}
 use Rattle.registry.specs.HoldersLaws.{place-holds, place-is}
-use Rattle.registry.specs.PlaceLists.{In, AllBelow}
-use Rattle.revocation_steps.proofs.laws.Cascade.{ids-at, ids-at-differ}
+use Rattle.registry.specs.PlaceLists.{AllBelow}
 use Rattle.steps.specs.Replies.{Listed}
-use Rattle.steps.specs.Steps.{placeIn}
+use Rattle.steps.specs.Steps.{placeIn, ChildOf}
 use Rattle.steps.proofs.laws.Cases.{when-by-cases}
 use Rattle.steps.proofs.laws.Entered.{world-by-cases}
 use Rattle.world.specs.Numbers.{numbersOf, registeredOf}
@@ -30,14 +29,10 @@ use Rattle.world.specs.declared.Numbers.{Numbers}
 use Rattle.revocation_calls.specs.Calls.{listedIn, descendants, descendantsOut}
 use Rattle.revocation_laws.proofs.laws.Meaning.{Descends}
 
--- x is a child of y.
-abbrev ChildOf : Numbers → List ℕ → ℕ → ℕ → Type 0
-ChildOf d mem x y = links d mem (placeIn d mem x) ≡ suc (placeIn d mem y)
-
 -- The list has exactly the ids that descend from the id, but for itself, each once, and each behind its parent or a child of the id.
 pub record TreeOf (d : Numbers) (mem : List ℕ) (id : ℕ) (xs : List ℕ) : Type 0 where
   pub exactly : (x : ℕ) → In xs x ↔ (Descends d mem (placeIn d mem id) (placeIn d mem x) × (x ≢ id))
-  pub once : Differ (length xs) (λ j. getD xs j 0)
+  pub once : Once xs
   pub parents-first :
       (j : ℕ) → j < length xs
       → ChildOf d mem (getD xs j 0) id ⊎ ((i : ℕ) × ((i < j) × ChildOf d mem (getD xs j 0) (getD xs i 0)))

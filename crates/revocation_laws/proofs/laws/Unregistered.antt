@@ -4,14 +4,15 @@ use mathlib.Core.Bool.{true}
 use mathlib.Core.List.{List, [], _∷_}
 use mathlib.Core.Logic.{_↔_, _≢_, _⊎_, inl, inr, ⊎-elim}
 use mathlib.Core.Path.{_≡_, ap, _∙_}
-use Prim.Native.Nat.{ℕ, zero, suc, _+_, _%_, _^_, _≤_, _<_}
+use Prim.Native.Nat.{ℕ, _+_, _%_, _^_, _≤_, _<_}
 use native.Mathlib.Omega.{arith}
 use lib.ListN.{length, getD, take}
 use Rattle.answers.specs.Number.{numberOf}
 use Rattle.answers.specs.declared.Answer.the-variants.{Done}
 use Rattle.base.specs.Distinct.{Differ}
+use Rattle.base.specs.Members.{in-one}
 use Rattle.revocation.specs.Log.{pairOf, logHas, appended}
-use Rattle.revocation.specs.LogLaws.{OneOf, take-appended, has-joined}
+use Rattle.revocation.specs.LogLaws.{take-appended, has-joined}
 use Rattle.revocation_steps.specs.Revocation.{logStep}
 use Rattle.revocation_steps.proofs.laws.LogSteps.{log-step-word, log-step-holdings, log-step-queue, log-step-logged, log-step-log}
 use Rattle.revocation_steps.proofs.laws.SameHoldings.{SameHoldings}
@@ -46,13 +47,6 @@ pub record OnlyLogged (d : Numbers) (pair : ℕ) (mem after : List ℕ) : Type 0
   -- The epoch counts one, and no other word of the head but the number of logged pairs changes.
   pub epoch : epochOf after ≡ (epochOf mem + 1) % 2 ^ 64
   pub others : (j : ℕ) → j < 16 → j ≢ 6 → j ≢ 13 → getD after j 0 ≡ getD mem j 0
-
-one-of-one : (x p : ℕ) → OneOf (x ∷ []) p ↔ (x ≡ p)
-one-of-one x p = (λ (k, (l, e)). only k l e, λ e. (0, (omega arith, e)))
-  where
-    only : (k : ℕ) → k < 1 → getD (x ∷ []) k 0 ≡ p → x ≡ p
-    only zero l e = e
-    only (suc k) l e = absurd (omega arith)
 
 module _ (d : Numbers) (mem : List ℕ) (sound : SoundAt d mem) (token : ℕ) where
   abbrev pair : ℕ
@@ -99,8 +93,8 @@ module _ (d : Numbers) (mem : List ℕ) (sound : SoundAt d mem) (token : ℕ) wh
       log-has = λ p.
           let has = has-joined n (pair ∷ []) lg room p in
           rw (logged, same-words) (
-            λ h. ⊎-elim inl (λ one. inr (one-of-one pair p .0 one)) (has .0 h),
-            λ h. has .1 (⊎-elim inl (λ e. inr (one-of-one pair p .1 e)) h),
+            λ h. ⊎-elim inl (λ one. inr (in-one pair p .0 one)) (has .0 h),
+            λ h. has .1 (⊎-elim inl (λ e. inr (in-one pair p .1 e)) h),
           );
       log-once = kept .sound .pairs-differ;
       epoch =

@@ -8,7 +8,7 @@ use native.Mathlib.Decide.{decLt}
 use native.Mathlib.Omega.{arith}
 use borrow.Author.Tests.{lt-ltb}
 use lib.ListN.{length, drop, drop-of-length-le}
-use Rattle.registry.specs.ChildrenLength.{ids-at-length}
+use Rattle.registry.specs.ChildrenLaws.{ids-at-length}
 use Rattle.revocation.specs.NoticesLaws.{lastWords}
 use Rattle.world.specs.Numbers.{registeredOf, loggedOf}
 use Rattle.world.specs.Regions.{registry, view}

@@ -8,12 +8,13 @@ use Prim.Native.Nat.{ℕ, _+_, _*_, _%_, _^_, _≤_, _<_}
 use native.Mathlib.Decide.{ℕ-discrete}
 use native.Mathlib.Omega.{arith}
 use lib.ListN.{length, getD, drop}
+use Rattle.base.specs.Members.{In}
 use Rattle.registry.specs.Descent.{descent, marked}
 use Rattle.registry.specs.DescentLaws.{descent-below}
 use Rattle.registry.specs.MarkedLaws.{marked-only, marked-unrevoked, descent-marked-keeps}
 use Rattle.registry.specs.PlaceLists.{AllBelow, all-below-more}
 use Rattle.revocation.specs.Log.{logHas, appended}
-use Rattle.revocation.specs.LogLaws.{OneOf, absent-exactly, absent-differ, absent-pairs}
+use Rattle.revocation.specs.LogLaws.{absent-exactly, absent-differ, absent-pairs}
 use Rattle.world.specs.Numbers.{nextOf, registeredOf, recycledOf, loggedOf}
 use Rattle.world.specs.Regions.{space, registry, log, queue, lengthFor, view, onRegion}
 use Rattle.world.specs.Sound.{spacesWith, SoundAt}
@@ -120,7 +121,7 @@ module _ (d : Numbers) (mem : List ℕ) (sound : SoundAt d mem) (r : ℕ) (insid
     room : loggedOf withCounted + length pairs ≤ d .pairs
     room = rw same-logged fits
 
-    absent : (pair : ℕ) → OneOf pairs pair → logHas (loggedOf withCounted) (view d log withCounted) pair ≡ false
+    absent : (pair : ℕ) → In pairs pair → logHas (loggedOf withCounted) (view d log withCounted) pair ≡ false
     absent pair among =
         rw (same-logged, same-log) (absent-exactly (loggedOf mem) (view d log mem) (cascadeIds d mem r) pair .0 among .1)
 

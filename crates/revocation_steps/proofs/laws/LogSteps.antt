@@ -8,9 +8,9 @@ use Prim.Native.Nat.{ℕ, _+_, _≤_, _<_}
 use native.Mathlib.Omega.{arith}
 use lib.ListN.{length, getD, set, length-set}
 use lib.Seq.{getD-set-same, getD-set-other}
-use Rattle.base.specs.Distinct.{Differ}
+use Rattle.base.specs.Members.{In, Once}
 use Rattle.revocation.specs.Log.{logHas, appended}
-use Rattle.revocation.specs.LogLaws.{OneOf, length-appended, pairs-appended, differ-appended}
+use Rattle.revocation.specs.LogLaws.{length-appended, pairs-appended, differ-appended}
 use Rattle.revocation.specs.Sound.{Pairs}
 use Rattle.revocation.specs.Words.{pairAt}
 use Rattle.world.specs.Layout.{Valid, same}
@@ -90,8 +90,8 @@ module _ (d : Numbers) (mem : List ℕ) (sound : SoundAt d mem) (pairs : List �
   same-queue = log-step-queue d mem (sound .long-enough) pairs fits
 
   pub log-step-kept :
-      Pairs (length pairs) (pairAt pairs) → Differ (length pairs) (pairAt pairs)
-      → ((pair : ℕ) → OneOf pairs pair → logHas (loggedOf mem) (view d log mem) pair ≡ false) → Kept d mem (logStep d pairs mem)
+      Pairs (length pairs) (pairAt pairs) → Once pairs
+      → ((pair : ℕ) → In pairs pair → logHas (loggedOf mem) (view d log mem) pair ≡ false) → Kept d mem (logStep d pairs mem)
   log-step-kept coded differ absent =
       let logged = log-step-logged d mem (sound .long-enough) pairs fits in
       let new-log = log-step-log d mem (sound .long-enough) pairs fits in

@@ -7,12 +7,14 @@ use mathlib.Core.List.{List}
 use Prim.Native.Nat.{ℕ, _+_, _*_, _≤_, _<_}
 use native.Mathlib.Omega.{arith}
 use lib.ListN.{length, take}
+use Rattle.base.specs.Members.{In}
 use Rattle.registry.specs.Descent.{descent, marked}
 use Rattle.registry.specs.DescentLaws.{Under, descent-exactly}
-use Rattle.registry.specs.MarkedLaws.{OnlyMarked, only-marked-ids, only-marked-objects, only-marked-links, only-marked-recycled, only-marked-listed, only-marked-holders, only-marked-elsewhere, descent-marked-only, descent-marked-revoked}
+use Rattle.registry.specs.MarkedLaws.{OnlyMarked, only-marked-listed, only-marked-holders, only-marked-elsewhere, descent-marked-only, descent-marked-revoked}
+use Rattle.registry.specs.StatesOnly.{same-ids, same-objects, same-links, same-recycled}
 use Rattle.registry.specs.Words.{objectAt, revoked, listed, holders}
 use Rattle.revocation.specs.Log.{logHas}
-use Rattle.revocation.specs.LogLaws.{OneOf, take-appended, has-joined}
+use Rattle.revocation.specs.LogLaws.{take-appended, has-joined}
 use Rattle.world.specs.Numbers.{registeredOf, loggedOf}
 use Rattle.world.specs.Regions.{registry, log, view}
 use Rattle.world.specs.Sound.{ids, states, links, recycled, SoundAt}
@@ -59,15 +61,15 @@ module _ (d : Numbers) (mem : List ℕ) (sound : SoundAt d mem) (r : ℕ) (insid
 
     -- Nothing else of a place changes, nor of the recycled ids.
     pub revoke-step-ids : (k : ℕ) → k < d .places → ids d (revokeStep d r time pids mem) k ≡ ids d mem k
-    revoke-step-ids = only-marked-ids (d .places) found rg _ only
+    revoke-step-ids = same-ids (d .places) rg _ only
 
     pub revoke-step-objects :
         (k : ℕ) → k < d .places
         → objectAt (d .places) (view d registry (revokeStep d r time pids mem)) k ≡ objectAt (d .places) (view d registry mem) k
-    revoke-step-objects = only-marked-objects (d .places) found rg _ only
+    revoke-step-objects = same-objects (d .places) rg _ only
 
     pub revoke-step-links : (k : ℕ) → links d (revokeStep d r time pids mem) k ≡ links d mem k
-    revoke-step-links = only-marked-links (d .places) found rg _ only
+    revoke-step-links = same-links (d .places) rg _ only
 
     pub revoke-step-holders : (k : ℕ) → holders (states d (revokeStep d r time pids mem) k) ≡ holders (states d mem k)
     revoke-step-holders = only-marked-holders (d .places) found rg _ only
@@ -76,7 +78,7 @@ module _ (d : Numbers) (mem : List ℕ) (sound : SoundAt d mem) (r : ℕ) (insid
     revoke-step-lists = only-marked-listed (d .places) found rg _ only
 
     pub revoke-step-recycled : (k : ℕ) → recycled d (revokeStep d r time pids mem) k ≡ recycled d mem k
-    revoke-step-recycled = only-marked-recycled (d .places) found rg _ only
+    revoke-step-recycled = same-recycled (d .places) rg _ only
 
     -- ---- the log
 
@@ -92,7 +94,7 @@ module _ (d : Numbers) (mem : List ℕ) (sound : SoundAt d mem) (r : ℕ) (insid
     pub revoke-step-log-has :
         (pair : ℕ)
         → (logHas (loggedOf (revokeStep d r time pids mem)) (view d log (revokeStep d r time pids mem)) pair ≡ true)
-        ↔ ((logHas (loggedOf mem) (view d log mem) pair ≡ true) ⊎ OneOf (cascadeIds d mem r) pair)
+        ↔ ((logHas (loggedOf mem) (view d log mem) pair ≡ true) ⊎ In (cascadeIds d mem r) pair)
     revoke-step-log-has pair =
         rw (revoke-step-logged d mem sound r inside fits time pids, revoke-step-log d mem sound r inside fits time pids)
         (has-joined (loggedOf mem) (cascadeIds d mem r) (view d log mem) room pair)

@@ -17,7 +17,7 @@ use Rattle.registry.specs.HoldersLaws.{HoldersOnly, held-only, released-only, h
 use Rattle.registry.specs.Ids.{firstTaken, recycledWith}
 use Rattle.registry.specs.IdsLaws.{length-taken, length-recycled-with}
 use Rattle.registry.specs.Registering.{registered, listGiven, unregistered, collected}
-use Rattle.registry.specs.RegisteringLaws.{length-registered, length-list-given}
+use Rattle.registry.specs.RegisteringLaws.{length-registered, list-given-only}
 use Rattle.registry.specs.UnregisteringLaws.{length-unregistered}
 use Rattle.space.specs.Change.{insertOut, removedToken, cleared, nextGeneration}
 use Rattle.space.specs.Copy.{copiedSpace}
@@ -286,7 +286,7 @@ module _ (d : Numbers) (mem : List ℕ) (ready : Ready d mem) where
   module _ (p : ℕ) (inside : p < d .places) where
     pub list-stays : Stays d mem (listStep d p mem)
     unfolding listStep
-    list-stays = registry-stays d mem ready (listGiven (d .places) p) (length-list-given (d .places) p rg inside long)
+    list-stays = registry-stays d mem ready (listGiven (d .places) p) (list-given-only (d .places) p rg inside long .same-length)
 
   module _ (k : ℕ) (inside : k < registeredOf mem) where
     pub unregister-leaves : Leaves d 11 (registeredOf mem - 1) mem (unregisterStep d k mem)

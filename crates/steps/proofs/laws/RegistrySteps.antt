@@ -9,7 +9,7 @@ use Rattle.registry.specs.CollectionLaws.{collected-left, length-collected, col
 use Rattle.registry.specs.Ids.{recycledWith}
 use Rattle.registry.specs.IdsLaws.{length-recycled-with, recycled-with-keeps}
 use Rattle.registry.specs.Registering.{registered, listGiven, unregistered, collected}
-use Rattle.registry.specs.RegisteringLaws.{Parent, length-registered, registered-keeps, length-list-given, list-given-keeps}
+use Rattle.registry.specs.RegisteringLaws.{Parent, length-registered, registered-keeps, list-given-only, list-given-keeps}
 use Rattle.registry.specs.UnregisteringLaws.{length-unregistered, unregistered-id, unregistered-before, unregistered-keeps}
 use Rattle.registry.specs.Rules.{RegistryRules}
 use Rattle.registry.specs.Without.{left-out}
@@ -63,7 +63,9 @@ module _ (d : Numbers) (mem : List ℕ) (sound : SoundAt d mem) where
   module _ (p : ℕ) (inside : p < d .places) where
     pub list-step : RegistryChanged d (listGiven (d .places) p rg) 12 m mem (listStep d p mem)
     unfolding listStep
-    list-step = only-registry-changed d mem (sound .long-enough) (listGiven (d .places) p) (length-list-given (d .places) p rg inside long)
+    list-step =
+        only-registry-changed d mem (sound .long-enough) (listGiven (d .places) p)
+        (list-given-only (d .places) p rg inside long .same-length)
 
     pub list-step-kept : Kept d mem (listStep d p mem)
     list-step-kept =

@@ -1,8 +1,8 @@
 -- Each step of a space keeps a sound memory: the space as its own laws say, and holders by as much as its entries come and go.
 use mathlib.Core.Path.{_≡_, refl, sym, ap, subst, _∙_}
 use mathlib.Core.Bool.{Bool, true, false, true≢false}
-use mathlib.Core.List.{List, [], _∷_}
-use Prim.Native.Nat.{ℕ, suc, _+_, _-_, _*_, _%_, _^_, _≤_, _<_}
+use mathlib.Core.List.{List}
+use Prim.Native.Nat.{ℕ, _+_, _-_, _*_, _%_, _^_, _≤_, _<_}
 use native.Mathlib.Omega.{arith}
 use lib.Dec.{eqb}
 use lib.ListN.{length}
@@ -13,7 +13,8 @@ use Rattle.base.specs.Choose.{pick}
 use Rattle.base.specs.Part.{onPart-same}
 use Rattle.base.specs.SumLaws.{sum-one-le}
 use Rattle.registry.specs.Holders.{held, released, heldAll, releasedAll}
-use Rattle.registry.specs.HoldersLaws.{HoldersOnly, count, holders-only-refl, holders-only-trans, holders-only-differ, same-ids, held-only, released-only, held-holders, released-holders, held-all-only, released-all-only, held-all-holders, released-all-holders}
+use Rattle.registry.specs.HoldersLaws.{HoldersOnly, count, holders-only-refl, holders-only-trans, held-only, released-only, held-holders, released-holders, held-all-only, released-all-only, held-all-holders, released-all-holders}
+use Rattle.registry.specs.StatesOnly.{same-ids, states-only-differ}
 use Rattle.registry.specs.Words.{idAt, stateAt, holders}
 use Rattle.table.specs.Insert.{liveEntries}
 use Rattle.table.specs.Slots.{idOf}
@@ -23,7 +24,7 @@ use Rattle.table.specs.declared.Got.the-variants.{Entry, Nothing}
 use Rattle.table.proofs.laws.LiveEntries.{live-count-le}
 use Rattle.space.specs.Change.{insertOut, removedToken, cleared, nextGeneration}
 use Rattle.space.specs.Copy.{copiedSpace}
-use Rattle.space.specs.Ids.{idsOf, entryIds}
+use Rattle.space.specs.Ids.{ids-of-length, entryIds}
 use Rattle.space.specs.Lookup.{lookedUp, counted}
 use Rattle.space.specs.Sound.{SpaceOf}
 use Rattle.space.specs.Words.{tableOf, slotWords}
@@ -49,14 +50,10 @@ inserted-done sp e =
 
 -- A space has at most M entries.
 few-ids : (most : ℕ) (sp : List ℕ) → SpaceOf most sp → length (entryIds sp) ≤ most
-unfolding entryIds idsOf
+unfolding entryIds
 few-ids most sp s =
     let ws : List ℕ = slotWords sp in
-    omega (arith, same (liveEntries ws 0 (tableOf sp .slots)), live-count-le most ws (tableOf sp) (s .sound .table))
-  where
-    same : (es : List CapabilityEntry) → length (idsOf es) ≡ length es
-    same [] = refl
-    same (e ∷ es) = ap suc (same es)
+    omega (arith, ids-of-length (liveEntries ws 0 (tableOf sp .slots)), live-count-le most ws (tableOf sp) (s .sound .table))
 
 module _ (d : Numbers) (mem : List ℕ) (sound : SoundAt d mem) where
   abbrev rg : List ℕ
@@ -226,7 +223,7 @@ module _ (d : Numbers) (mem : List ℕ) (sound : SoundAt d mem) where
         omega (
           arith,
           released-all-holders (d .places) n fit k l (entryIds tgt) (came rg) came-long
-              (holders-only-differ (d .places) rg (came rg) came-only n fit (sound .ids-differ)),
+              (states-only-differ (d .places) rg (came rg) came-only n fit (sound .ids-differ)),
           held-all-holders (d .places) n fit k l (entryIds src) rg long (sound .ids-differ)
               (omega (arith, few-holders k l, few-ids (d .most) src (of-space source from), sound .in-range .most)),
           ap (λ id. count id (entryIds tgt)) same,

@@ -8,7 +8,8 @@ use native.Mathlib.Decide.{ℕ-discrete}
 use native.Mathlib.Omega.{arith}
 use lib.ListN.{getD}
 use Rattle.base.specs.Below.{one}
-use Rattle.registry.specs.HoldersLaws.{HoldersOnly, same-ids, holders-only-registered, holders-only-recycled}
+use Rattle.registry.specs.HoldersLaws.{HoldersOnly, holders-only-registered}
+use Rattle.registry.specs.StatesOnly.{same-ids, states-only-recycled}
 use Rattle.registry.specs.Sound.{Held}
 use Rattle.registry.specs.Words.{idAt, stateAt, holders}
 use Rattle.space.specs.Sound.{SpaceOf, SoundSpace}
@@ -101,7 +102,7 @@ module _ (d : Numbers) (s : ℕ) (f g : List ℕ → List ℕ) (mem : List ℕ) 
       (same-word 12 (omega arith)) (same-word 5 (omega arith)) new-registry (sound .registered-fit) (sound .recycled-fit)
       (sound .next-low) (sound .next-high) spaces
       (record {
-        registered = holders-only-registered (d .places) _ _ (st .only-holders) n next (sound .registered-fit) (rules .registered);
-        recycled = holders-only-recycled (d .places) _ _ (st .only-holders) n next (sound .registered-fit) _ (rules .recycled);
+        registered = holders-only-registered (d .places) _ _ (st .only-holders) n (sound .registered-fit) next (rules .registered);
+        recycled = states-only-recycled (d .places) _ _ (st .only-holders) n (sound .registered-fit) next _ (rules .recycled);
         held = few;
       })

@@ -13,7 +13,7 @@ use lib.Seq.{sets, sets-eq}
 use Rattle.registry.specs.Words.{idAt, linkAt, children}
 use Rattle.base.specs.Written.{written}
 use Rattle.registry.specs.Children.{childPlacesFrom, childPlaces, idsAt, childIds}
-use Rattle.registry.specs.ChildrenLength.{child-ids-length}
+use Rattle.registry.specs.ChildrenLaws.{child-ids-length}
 use Rattle.registry.proofs.Naming.{names-it, names-other}
 use Rattle.registry.proofs.children.list_children.Statement.{statement}
 use Rattle.registry.proofs.children.list_children.Tie as tie

@@ -12,7 +12,7 @@ use lib.Seq.{drop-cons, sets, sets-eq}
 use Rattle.registry.specs.Words.{idAt}
 use Rattle.base.specs.Written.{written}
 use Rattle.registry.specs.Children.{idsAt}
-use Rattle.registry.specs.ChildrenLength.{ids-at-length}
+use Rattle.registry.specs.ChildrenLaws.{ids-at-length}
 use Rattle.registry.specs.PlaceLists.{all-below-at}
 use Rattle.registry.proofs.descent.ids_at.Statement.{statement}
 use Rattle.registry.proofs.descent.ids_at.Tie as tie

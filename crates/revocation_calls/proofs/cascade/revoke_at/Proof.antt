@@ -12,7 +12,7 @@ use lib.Seq.{length-take-le}
 use Rattle.base.specs.Choose.{when-yes, when-no}
 use Rattle.base.specs.Written.{written, take-written}
 use Rattle.registry.specs.Children.{idsAt}
-use Rattle.registry.specs.ChildrenLength.{ids-at-length}
+use Rattle.registry.specs.ChildrenLaws.{ids-at-length}
 use Rattle.revocation_steps.specs.Revocation.{cascade, cascadeIds, revokeStep}
 use Rattle.revocation_steps.proofs.laws.Cascade.{cascade-first}
 use Rattle.steps.specs.Replies.{done}

@@ -12,7 +12,7 @@ use Rattle.answers.specs.declared.Answer.the-variants.{BadField}
 use Rattle.base.specs.Choose.{when-yes, when-no}
 use Rattle.base.specs.Written.{written}
 use Rattle.registry.specs.Children.{idsAt}
-use Rattle.registry.specs.ChildrenLength.{ids-at-length}
+use Rattle.registry.specs.ChildrenLaws.{ids-at-length}
 use Rattle.registry.specs.Descent.{descent}
 use Rattle.registry.specs.DescentLaws.{descent-first}
 use Rattle.registry.specs.PlaceLists.{AllBelow, all-below-more, all-below-later}
