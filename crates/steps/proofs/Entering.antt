@@ -4,7 +4,6 @@ use mathlib.Core.List.{List}
 use mathlib.Core.Path.{_≡_, refl, sym, ap, ap₂, _∙_}
 use Prim.Native.Nat.{ℕ, _<_, _≤_}
 use native.Mathlib.Omega.{arith}
-use borrow.Author.Needs.{needs}
 use borrow.Author.Tests.{ltb-true, lt-ltb, le-ltb}
 use lib.Dec.{ltb}
 use Rattle.answers.specs.declared.Answer.{Answer}
@@ -142,7 +141,7 @@ pub left-both :
 left-both r r′ m m′ same kept = ap₂ (λ r m. record { reply = r; memory = m }) same kept
 
 -- What every call of a space asks and answers once it was entered.
-pub ruleset enters = (needs, refuses, makes, entered-ready, entered-there, left-both)
+pub ruleset enters = (refuses, makes, entered-ready, entered-there, left-both)
 
 -- ---- the code's own ways
 

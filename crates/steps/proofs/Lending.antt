@@ -3,7 +3,6 @@ use mathlib.Core.List.{List, _++_}
 use mathlib.Core.Path.{_≡_, sym, ap, ap₂}
 use Prim.Native.Nat.{ℕ, _+_, _-_, _*_, _<_, _≤_}
 use native.Mathlib.Omega.{arith}
-use borrow.Author.Needs.{needs}
 use lib.ListN.{length, getD, set, take, drop}
 use Rattle.space.specs.Words.{InRange}
 use Rattle.space.proofs.laws.Kept.{in-range}
@@ -52,7 +51,7 @@ module _ (d : Numbers) (mem : List ℕ) (start : ℕ) (at : StartsAt d registry 
   registry-word i l = rw (at .is) (sym (view-word d registry mem i (omega arith)))
 
 -- What a callee asks of a space or the registry that it is lent, and what it leaves.
-pub ruleset lends = (needs, lent-in-range, space-back, registry-long, registry-back, registry-and-word)
+pub ruleset lends = (lent-in-range, space-back, registry-back, registry-and-word)
 
 -- ---- the log
 

@@ -1,4 +1,5 @@
 -- Entered, the token is looked up.
+use borrow.Author.Needs.{needs}
 use mathlib.Core.Path.{ap, _∙_}
 use Rattle.space.specs.declared.LookedUp.{LookedUp}
 use Rattle.steps.proofs.Entering.{enters}
@@ -18,4 +19,5 @@ pub lookup-spec : {M : Type 1} → statement M
 unfolding lookupOut
 lookup-spec =
     tie.close
-    (tie.spec (λ c κs. search enters) (λ c. search enters) (λ c κs. search enters) (λ c. search enters) (λ c κs. search enters) (λ c κs. search enters) (λ c. search enters) (λ c. search enters) (λ c. search enters) returns-2)
+    (tie.spec (λ c κs. search needs) (λ c. search needs) (λ c κs. search needs) (λ c. search needs) (λ c κs. search enters)
+    (λ c κs. search needs) (λ c. search needs) (λ c. search enters) (λ c. search needs) returns-2)

@@ -1,4 +1,5 @@
 -- Entered, the n-th entry is answered.
+use borrow.Author.Needs.{needs}
 use mathlib.Core.Path.{ap, _∙_}
 use Rattle.steps.proofs.Entering.{enters}
 use Rattle.space_calls.specs.Calls.{nthEntryOut}
@@ -16,4 +17,5 @@ pub nth-entry-spec : {M : Type 1} → statement M
 unfolding nthEntryOut
 nth-entry-spec =
     tie.close
-    (tie.spec (λ c κs. search enters) (λ c. search enters) (λ c κs. search enters) (λ c. search enters) (λ c κs. search enters) (λ c κs. search enters) (λ c. search enters) returns-2)
+    (tie.spec (λ c κs. search needs) (λ c. search needs) (λ c κs. search needs) (λ c. search needs) (λ c κs. search enters)
+    (λ c κs. search needs) (λ c. search enters) returns-2)

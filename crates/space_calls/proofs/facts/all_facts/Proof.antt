@@ -1,4 +1,5 @@
 -- Entered, the space says it.
+use borrow.Author.Needs.{needs}
 use mathlib.Core.Path.{ap}
 use Rattle.answers.specs.declared.Answer.the-variants.{Done}
 use Rattle.steps.proofs.Entering.{enters}
@@ -18,4 +19,5 @@ pub all-facts-spec : {M : Type 1} → statement M
 unfolding factsOut
 all-facts-spec =
     tie.close
-    (tie.spec (λ c κs. search enters) (λ c. search enters) (λ c κs. search enters) (λ c. search enters) (λ c κs. search enters) (λ c. search enters) returns-2)
+    (tie.spec (λ c κs. search needs) (λ c. search needs) (λ c κs. search needs) (λ c. search needs) (λ c κs. search enters)
+    (λ c. search enters) returns-2)

@@ -1,4 +1,5 @@
 -- The registry is lent to `registry::holders::hold`.
+use borrow.Author.Needs.{needs}
 use Rattle.steps.specs.Steps.{holdStep}
 use Rattle.steps.proofs.Lending.{lends}
 use Rattle.steps.proofs.holders.hold.Statement.{statement}
@@ -11,4 +12,5 @@ returns c = search lends
 pub hold-spec : {M : Type 1} → statement M
 hold-spec =
     tie.close
-    (tie.spec (λ c κs. search lends) (λ c. search lends) (λ c. search lends) (λ c. search lends) (λ c. search lends) (λ c. search lends) (λ c. search lends) (λ c. search lends) (λ c κs. search lends) (λ c. search lends) returns)
+    (tie.spec (λ c κs. search needs) (λ c. search needs) (λ c. search needs) (λ c. search needs) (λ c. search needs) (λ c. search needs)
+    (λ c. search needs) (λ c. search needs) (λ c κs. search needs) (λ c. search needs) returns)

@@ -1,4 +1,5 @@
 -- The registry is lent to `registry::registering::register`, then the count of registered ids is set.
+use borrow.Author.Needs.{needs}
 use Rattle.steps.specs.Steps.{registerStep}
 use Rattle.steps.proofs.Lending.{lends}
 use Rattle.steps.proofs.registered.register.Statement.{statement}
@@ -11,4 +12,6 @@ returns c = search lends
 pub register-spec : {M : Type 1} → statement M
 register-spec =
     tie.close
-    (tie.spec (λ c. search lends) (λ c κs. search lends) (λ c. search lends) (λ c. search lends) (λ c. search lends) (λ c. search lends) (λ c. search lends) (λ c. search lends) (λ c. search lends) (λ c κs. search lends) (λ c. search lends) (λ c. search lends) (λ c. search lends) returns)
+    (tie.spec (λ c. search needs) (λ c κs. search needs) (λ c. search needs) (λ c. search needs) (λ c. search needs) (λ c. search needs)
+    (λ c. search needs) (λ c. search needs) (λ c. search needs) (λ c κs. search needs) (λ c. search needs) (λ c. search needs)
+    (λ c. search needs) returns)

@@ -1,4 +1,5 @@
 -- The space is lent to `space::clear`.
+use borrow.Author.Needs.{needs}
 use Rattle.steps.proofs.Lending.{lends}
 use Rattle.steps.proofs.spaces.clear_entries.Statement.{statement}
 use Rattle.steps.proofs.spaces.clear_entries.Tie as tie
@@ -6,4 +7,5 @@ use Rattle.steps.proofs.spaces.clear_entries.Tie as tie
 pub clear-entries-spec : {M : Type 1} → statement M
 clear-entries-spec =
     tie.close
-    (tie.spec (λ c κs. search lends) (λ c κs. search lends) (λ c. search lends) (λ c. search lends) (λ c. search lends) (λ c. search lends) (λ c. search lends) (λ c κs. search lends) (λ c. search lends) (λ c. search lends))
+    (tie.spec (λ c κs. search needs) (λ c κs. search needs) (λ c. search needs) (λ c. search needs) (λ c. search needs)
+    (λ c. search needs) (λ c. search needs) (λ c κs. search lends) (λ c. search needs) (λ c. search lends))

@@ -1,4 +1,5 @@
 -- The space is lent to `space::next_generation`.
+use borrow.Author.Needs.{needs}
 use Rattle.steps.specs.Steps.{nextStep}
 use Rattle.steps.proofs.Lending.{lends}
 use Rattle.steps.proofs.spaces.next_generation.Statement.{statement}
@@ -11,4 +12,5 @@ returns c = search lends
 pub next-generation-spec : {M : Type 1} → statement M
 next-generation-spec =
     tie.close
-    (tie.spec (λ c κs. search lends) (λ c κs. search lends) (λ c. search lends) (λ c. search lends) (λ c. search lends) (λ c. search lends) (λ c. search lends) (λ c κs. search lends) (λ c. search lends) returns)
+    (tie.spec (λ c κs. search needs) (λ c κs. search needs) (λ c. search needs) (λ c. search needs) (λ c. search needs)
+    (λ c. search needs) (λ c. search needs) (λ c κs. search lends) (λ c. search needs) returns)
