@@ -1,7 +1,7 @@
 -- What a host is told of a call: its reply is the definition's, so what is seen of the one is what the host sees of the other. One law for
--- each way that a call leaves its answer beside something: the memory, a lent area, both. Alone it is `of-known`.
+-- each thing that a call leaves beside its answer, the memory and a lent area; a search takes both for both. Alone it is `of-known`.
 use mathlib.Core.List.{List}
-use mathlib.Core.Path.{_≡_, refl, ap}
+use mathlib.Core.Path.{_≡_, ap}
 use Prim.Native.Nat.{ℕ}
 use Rattle.steps.specs.Replies.{Left, Listed}
 use Rattle.steps.specs.declared.Reply.{Reply}
@@ -16,7 +16,4 @@ pub seen-listed : (reply : Reply) (area : List ℕ) (listed : Listed) (r : CallA
 unfolding listedAnswer
 seen-listed reply area listed r is so = rw so (ap listedAnswer is)
 
-pub seen-both : (reply : Reply) (area memory : List ℕ) (left : Left Listed) (r : CallAnswer) → record { reply = record { reply = reply; area = area }; memory = memory } ≡ left → r ≡ callAnswer reply → record { reply = record { reply = r; area = area }; memory = memory } ≡ told listedAnswer left
-seen-both reply area memory left r is so = seen-left listedAnswer (record { reply = reply; area = area }) memory left (record { reply = r; area = area }) is (seen-listed reply area (record { reply = reply; area = area }) r refl so)
-
-pub ruleset seen-so = (seen-left, seen-listed, seen-both)
+pub ruleset seen-so = (seen-left, seen-listed)
