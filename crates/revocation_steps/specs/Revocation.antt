@@ -11,6 +11,8 @@ use Rattle.registry.specs.Children.{idsAt}
 use Rattle.registry.specs.Descent.{descent, unrevokedOf, marked}
 use Rattle.revocation.specs.Log.{absentOf, appended}
 use Rattle.revocation.specs.Queue.{pushed, begun, freed}
+use Rattle.revocation.specs.Reason.{numberOf}
+use Rattle.revocation.specs.declared.RevocationReason.the-variants.{ParentRevoked}
 use Rattle.steps.specs.Steps.{addStep}
 use Rattle.world.specs.Numbers.{registeredOf, loggedOf, epochWord, revokedWord}
 use Rattle.world.specs.Regions.{registry, log, queue, view, onRegion}
@@ -49,7 +51,7 @@ notifyStep d pid id time reason mem =
 -- The id is queued to every listed pid as parent_revoked; a repeat is served twice.
 unfoldable pub notifyPids : Numbers → List ℕ → ℕ → ℕ → List ℕ → List ℕ
 notifyPids d [] id time mem = mem
-notifyPids d (pid ∷ listed) id time mem = notifyPids d listed id time (notifyStep d pid id time 1 mem)
+notifyPids d (pid ∷ listed) id time mem = notifyPids d listed id time (notifyStep d pid id time (numberOf ParentRevoked) mem)
 
 -- Each of these ids in turn.
 unfoldable pub notifyAll : Numbers → List ℕ → List ℕ → ℕ → List ℕ → List ℕ
@@ -89,7 +91,8 @@ cascadeIds d mem r = idsAt (view d registry mem) (cascade d mem r)
 abbrev pub cascadePairs : Numbers → List ℕ → ℕ → List ℕ
 cascadePairs d mem r = absentOf (loggedOf mem) (logOf d mem) (cascadeIds d mem r)
 
--- Places ks with their ids are revoked and counted; each joins the log if absent, epoch plus one either way; each id but the first is queued.
+-- Places ks with their ids are revoked and counted; each joins the log if absent, epoch plus one either way; each id but the first is
+-- queued.
 abbrev pub carriedOut : Numbers → List ℕ → List ℕ → List ℕ → ℕ → List ℕ → List ℕ → List ℕ
 carriedOut d ks ids pairs time listed mem =
     notifyAll d listed (drop 1 ids) time

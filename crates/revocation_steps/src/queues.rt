@@ -11,6 +11,7 @@ ghost use Rattle.steps.specs.Ready.{Fits, QueuesReady};
 ghost use Rattle.world.specs.Regions.{queue, view};
 ghost use Rattle.world.specs.Sound.{lengths};
 ghost use Rattle.revocation_steps.specs.Revocation.{queueFor, freeQueue, freeQueues, isIn, newQueues, notifyStep, notifyPids, notifyAll, freeStep};
+use revocation::RevocationReason;
 use world::Numbers;
 use world::regions::queue_at;
 
@@ -78,9 +79,6 @@ pub fn free_queues(mem: &[u64], d: Numbers) -> usize
     while q < d.queues {
         if is_free(mem, at) {
             free += 1;
-            at += 771;
-            q += 1;
-            continue;
         }
         at += 771;
         q += 1;
@@ -124,7 +122,6 @@ pub fn notify(mem: &mut [u64], d: Numbers, pid: u64, id: u64, time: u64, reason:
         let start = queue_at(d, free);
         let end = start + 771;
         revocation::queues::begin(&mut mem[start..end], pid, id, time, reason);
-        return;
     }
 }
 
@@ -173,8 +170,6 @@ pub fn new_queues(mem: &[u64], d: Numbers, listed: &[u64]) -> usize
     while j < listed.len() {
         if is_new(mem, d, listed, j) {
             count += 1;
-            j += 1;
-            continue;
         }
         j += 1;
     }
@@ -187,9 +182,10 @@ fn notify_pids(mem: &mut [u64], d: Numbers, listed: &[u64], id: u64, time: u64)
     ensures { λ _. ⌜ now (mem .exit) ≡ notifyPids d (now (listed .entry)) id time (now (mem .entry)) ⌝ }
     ensures { λ _. ⌜ QueuesReady d (now (mem .exit)) ⌝ }
 {
+    let reason = RevocationReason::ParentRevoked.number() as u64;
     let mut j = 0;
     while j < listed.len() {
-        notify(mem, d, listed[j], id, time, 1);
+        notify(mem, d, listed[j], id, time, reason);
         j += 1;
     }
 }

@@ -15,7 +15,7 @@ use Rattle.registry.specs.MarkedLaws.{marked-only, marked-unrevoked, descent-ma
 use Rattle.registry.specs.PlaceLists.{AllBelow, all-below-more}
 use Rattle.revocation.specs.Log.{logHas, appended}
 use Rattle.revocation.specs.LogLaws.{absent-exactly, absent-differ, absent-pairs}
-use Rattle.world.specs.Numbers.{nextOf, registeredOf, recycledOf, loggedOf}
+use Rattle.world.specs.Numbers.{nextOf, registeredOf, recycledOf, loggedOf, epochOf, epochWord, revokedWord}
 use Rattle.world.specs.Regions.{space, registry, log, queue, lengthFor, view, onRegion}
 use Rattle.world.specs.Sound.{spacesWith, SoundAt}
 use Rattle.world.specs.Views.{registry-words}
@@ -43,8 +43,8 @@ marks d mem enough ks inside =
 abbrev pub unnotified : Numbers → ℕ → List ℕ → List ℕ
 unnotified d r mem =
     let ks = cascade d mem r in
-    addStep 6 (length ks)
-    (logStep d (cascadePairs d mem r) (addStep 9 (length ks) (onRegion d registry (marked (d .places) ks) mem)))
+    addStep epochWord (length ks)
+    (logStep d (cascadePairs d mem r) (addStep revokedWord (length ks) (onRegion d registry (marked (d .places) ks) mem)))
 
 module _ (d : Numbers) (mem : List ℕ) (sound : SoundAt d mem) (r : ℕ) (inside : r < registeredOf mem) where
   abbrev rg : List ℕ
@@ -97,20 +97,22 @@ module _ (d : Numbers) (mem : List ℕ) (sound : SoundAt d mem) (r : ℕ) (insid
     withMarked = onRegion d registry (marked (d .places) ks) mem
 
     abbrev withCounted : List ℕ
-    withCounted = addStep 9 count withMarked
+    withCounted = addStep revokedWord count withMarked
 
     abbrev withLogged : List ℕ
     withLogged = logStep d pairs withCounted
 
     abbrev withEpoch : List ℕ
-    withEpoch = addStep 6 count withLogged
+    withEpoch = addStep epochWord count withLogged
 
-    counted : RegistryChanged d (view d registry withMarked) 9 ((getD withMarked 9 0 + count) % 2 ^ 64) withMarked withCounted
-    counted = add-step d withMarked (mark-step-kept .sound .long-enough) 9 count (omega arith) (omega arith)
+    counted :
+        RegistryChanged d (view d registry withMarked) revokedWord ((getD withMarked revokedWord 0 + count) % 2 ^ 64) withMarked withCounted
+    counted = add-step d withMarked (mark-step-kept .sound .long-enough) revokedWord count (omega arith) (omega arith)
 
     counted-kept : Kept d mem withCounted
     counted-kept =
-        kept-trans d mem withMarked withCounted mark-step-kept (add-step-kept d withMarked (mark-step-kept .sound) 9 count (omega arith) (omega arith))
+        kept-trans d mem withMarked withCounted mark-step-kept
+        (add-step-kept d withMarked (mark-step-kept .sound) revokedWord count (omega arith) (omega arith))
 
     same-logged : loggedOf withCounted ≡ loggedOf mem
     same-logged = counted .apart .logged ∙ mark-step .apart .logged
@@ -132,12 +134,13 @@ module _ (d : Numbers) (mem : List ℕ) (sound : SoundAt d mem) (r : ℕ) (insid
         (absent-pairs (loggedOf mem) (view d log mem) (cascadeIds d mem r) (cascade-ids-coded d mem sound r inside))
         (absent-differ (loggedOf mem) (view d log mem) (cascadeIds d mem r) (cascade-ids-differ d mem sound r inside)) absent)
 
-    epoch-counted : RegistryChanged d (view d registry withLogged) 6 ((getD withLogged 6 0 + count) % 2 ^ 64) withLogged withEpoch
-    epoch-counted = add-step d withLogged (logged-kept .sound .long-enough) 6 count (omega arith) (omega arith)
+    epoch-counted : RegistryChanged d (view d registry withLogged) epochWord ((epochOf withLogged + count) % 2 ^ 64) withLogged withEpoch
+    epoch-counted = add-step d withLogged (logged-kept .sound .long-enough) epochWord count (omega arith) (omega arith)
 
     epoch-kept : Kept d mem withEpoch
     epoch-kept =
-        kept-trans d mem withLogged withEpoch logged-kept (add-step-kept d withLogged (logged-kept .sound) 6 count (omega arith) (omega arith))
+        kept-trans d mem withLogged withEpoch logged-kept
+        (add-step-kept d withLogged (logged-kept .sound) epochWord count (omega arith) (omega arith))
 
     -- Until the notices join, the queues are as they were.
     pub unnotified-kept : Kept d mem (unnotified d r mem)
@@ -197,24 +200,27 @@ module _ (d : Numbers) (mem : List ℕ) (sound : SoundAt d mem) (r : ℕ) (insid
     -- ---- in the head
 
     -- The epoch and the number of revoked ids count the cascade, and no word but these and the number of logged pairs changes.
-    pub revoke-step-epoch : getD (revokeStep d r time listed mem) 6 0 ≡ (getD mem 6 0 + length (cascade d mem r)) % 2 ^ 64
+    pub revoke-step-epoch : epochOf (revokeStep d r time listed mem) ≡ (epochOf mem + length (cascade d mem r)) % 2 ^ 64
     revoke-step-epoch =
-        let same : getD withLogged 6 0 ≡ getD mem 6 0 =
-        log-step-word d withCounted (counted-kept .sound .long-enough) pairs room 6 (omega arith) (λ e. omega arith)
-        ∙ counted .same-word 6 (omega arith) (λ e. omega arith)
-        ∙ mark-step .same-word 6 (omega arith) (λ e. omega arith) in
-        queued .same-head 6 (omega arith) ∙ epoch-counted .new-word ∙ ap (λ epoch. (epoch + count) % 2 ^ 64) same
+        let same : epochOf withLogged ≡ epochOf mem =
+        log-step-word d withCounted (counted-kept .sound .long-enough) pairs room epochWord (omega arith) (λ e. omega arith)
+        ∙ counted .same-word epochWord (omega arith) (λ e. omega arith)
+        ∙ mark-step .same-word epochWord (omega arith) (λ e. omega arith) in
+        queued .same-head epochWord (omega arith) ∙ epoch-counted .new-word ∙ ap (λ epoch. (epoch + count) % 2 ^ 64) same
 
-    pub revoke-step-statistic : getD (revokeStep d r time listed mem) 9 0 ≡ (getD mem 9 0 + length (cascade d mem r)) % 2 ^ 64
+    pub revoke-step-statistic :
+        getD (revokeStep d r time listed mem) revokedWord 0 ≡ (getD mem revokedWord 0 + length (cascade d mem r)) % 2 ^ 64
     revoke-step-statistic =
-        let same : getD withMarked 9 0 ≡ getD mem 9 0 = mark-step .same-word 9 (omega arith) (λ e. omega arith) in
-        queued .same-head 9 (omega arith)
-        ∙ epoch-counted .same-word 9 (omega arith) (λ e. omega arith)
-        ∙ log-step-word d withCounted (counted-kept .sound .long-enough) pairs room 9 (omega arith) (λ e. omega arith)
+        let same : getD withMarked revokedWord 0 ≡ getD mem revokedWord 0 =
+        mark-step .same-word revokedWord (omega arith) (λ e. omega arith) in
+        queued .same-head revokedWord (omega arith)
+        ∙ epoch-counted .same-word revokedWord (omega arith) (λ e. omega arith)
+        ∙ log-step-word d withCounted (counted-kept .sound .long-enough) pairs room revokedWord (omega arith) (λ e. omega arith)
         ∙ counted .new-word
         ∙ ap (λ before. (before + count) % 2 ^ 64) same
 
-    pub revoke-step-word : (j : ℕ) → j < 16 → j ≢ 6 → j ≢ 9 → j ≢ 13 → getD (revokeStep d r time listed mem) j 0 ≡ getD mem j 0
+    pub revoke-step-word :
+        (j : ℕ) → j < 16 → j ≢ epochWord → j ≢ revokedWord → j ≢ 13 → getD (revokeStep d r time listed mem) j 0 ≡ getD mem j 0
     revoke-step-word j l no-epoch no-statistic no-logged =
         queued .same-head j l
         ∙ epoch-counted .same-word j l no-epoch

@@ -9,7 +9,7 @@ use native.Mathlib.Omega.{arith}
 use lib.ListN.{length, getD, drop}
 use Rattle.base.specs.Distinct.{Differ}
 use Rattle.revocation.specs.Sound.{Pairs, SoundQueue, PidsDiffer}
-use Rattle.world.specs.Numbers.{numbersOf, nextOf, registeredOf, recycledOf, loggedOf}
+use Rattle.world.specs.Numbers.{numbersOf, nextOf, registeredOf, recycledOf, loggedOf, epochWord}
 use Rattle.world.specs.Regions.{space, registry, queue, lengthFor, view}
 use Rattle.world.specs.Sound.{logPairs, pids, lengths, SoundAt}
 use Rattle.world.specs.declared.Numbers.{Numbers}
@@ -20,7 +20,7 @@ pub record SameHoldings (d : Numbers) (mem mem′ : List ℕ) : Type 0 where
   pub numbers : numbersOf mem′ ≡ numbersOf mem
   pub same-length : length mem′ ≡ length mem
   pub past : drop (lengthFor d) mem′ ≡ drop (lengthFor d) mem
-  pub same-word : (j : ℕ) → j < 13 → j ≢ 6 → getD mem′ j 0 ≡ getD mem j 0
+  pub same-word : (j : ℕ) → j < 13 → j ≢ epochWord → getD mem′ j 0 ≡ getD mem j 0
   pub same-registry : view d registry mem′ ≡ view d registry mem
   pub same-space : (s : ℕ) → s < d .spaces → view d (space s) mem′ ≡ view d (space s) mem
 

@@ -1,6 +1,7 @@
 -- Those before q are counted.
 use mathlib.Core.Bool.{Bool, true, false}
 use mathlib.Core.List.{List}
+use mathlib.Core.Logic.{⊎-elim}
 use mathlib.Core.Path.{_≡_, sym, ap}
 use Prim.Native.Nat.{ℕ, _+_, _-_, _≤_}
 use borrow.Author.Needs.{needs}
@@ -47,9 +48,11 @@ abbrev μ-loop : tie.MeasureT-loop
 
 ruleset laws = (needs, along-laws, starts, done, counts, passes)
 
+loop-again : tie.Need-loop-again Inv-loop μ-loop
+loop-again c = ⊎-elim (λ (free, more). rw more (search laws)) (λ (used, same). rw same (search laws)) (c .if2 .came)
+
 pub free-queues-spec : {M : Type 1} → statement M
 free-queues-spec =
     tie.close
     (tie.spec Inv-loop μ-loop (λ c κs. search laws) (λ c. search laws) (λ c κs. search laws) (λ c. search laws) (λ c. search laws)
-    (λ c. search laws) (λ c. search laws) (λ c. search laws) (λ c. search laws) (λ c. search laws) (λ c. search laws) (λ c. search laws)
-    (λ c. search laws))
+    (λ c. search laws) (λ c. search laws) loop-again (λ c. search laws))

@@ -1,6 +1,7 @@
 -- Those before j are counted; with those from j on they are the answer.
 use mathlib.Core.Bool.{Bool, true, false, not}
 use mathlib.Core.List.{List, _∷_}
+use mathlib.Core.Logic.{⊎-elim}
 use mathlib.Core.Path.{_≡_, sym, _∙_}
 use Prim.Native.Nat.{ℕ, _+_, _-_, _<_, _≤_}
 use native.Mathlib.Nat.{zero-add}
@@ -60,8 +61,11 @@ abbrev μ-loop : tie.MeasureT-loop
 
 ruleset laws = (needs, starts, ends, counts, passes)
 
+loop-again : tie.Need-loop-again Inv-loop μ-loop
+loop-again c = ⊎-elim (λ (new, more). rw more (search laws)) (λ (old, same). rw same (search laws)) (c .if1 .came)
+
 pub new-queues-spec : {M : Type 1} → statement M
 new-queues-spec =
     tie.close
     (tie.spec Inv-loop μ-loop (λ c. search laws) (λ c κs. search laws) (λ c. search laws) (λ c. search laws) (λ c. search laws)
-    (λ c. search laws) (λ c. search laws) (λ c. search laws) (λ c. search laws) (λ c. search laws))
+    loop-again (λ c. search laws))

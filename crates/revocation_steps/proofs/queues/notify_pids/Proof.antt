@@ -7,6 +7,8 @@ use native.Mathlib.Omega.{arith}
 use borrow.Author.Needs.{needs}
 use lib.ListN.{length, getD, drop, drop-of-length-le}
 use lib.Seq.{drop-cons}
+use Rattle.revocation.specs.Reason.{numberOf}
+use Rattle.revocation.specs.declared.RevocationReason.the-variants.{ParentRevoked}
 use Rattle.world.specs.declared.Numbers.{Numbers}
 use Rattle.steps.specs.Ready.{QueuesReady}
 use Rattle.revocation_steps.specs.Revocation.{notifyStep, notifyPids}
@@ -30,26 +32,28 @@ module _ (d : Numbers) (listed : List ℕ) (id time : ℕ) (mem₀ : List ℕ) w
     unfolding notifyPids
     ends u = rw (drop-of-length-le listed u) at (notifying .left)
 
-    goes : j < length listed → (after : List ℕ) → after ≡ notifyStep d (getD listed j 0) id time 1 mem → Notifying after (j + 1)
+    goes :
+        (reason : ℕ) → reason ≡ numberOf ParentRevoked → j < length listed → (after : List ℕ)
+        → after ≡ notifyStep d (getD listed j 0) id time reason mem → Notifying after (j + 1)
     unfolding notifyPids
-    goes l after e =
+    goes reason parent l after e =
         let next : drop j listed ≡ getD listed j 0 ∷ drop (j + 1) listed = rw add-one (drop-cons listed j 0 l) in
         record {
-          ready = rw e (ready-notified d mem (notifying .ready) (getD listed j 0) id time 1 (omega arith));
-          left = rw e (rw next at (notifying .left));
+          ready = rw e (ready-notified d mem (notifying .ready) (getD listed j 0) id time reason (omega arith));
+          left = rw (e, parent) (rw next at (notifying .left));
         }
 
 abbrev Inv-loop : tie.InvT-loop
-Inv-loop mem₀ d listed id time j₀ mem j =
+Inv-loop mem₀ d listed id time reason j₀ mem j =
     (j ≤ length listed) × (length mem ≡ length mem₀) × Notifying d listed id time mem₀ mem j
 
 abbrev μ-loop : tie.MeasureT-loop
-μ-loop mem₀ d listed id time j₀ mem j = length listed - j
+μ-loop mem₀ d listed id time reason j₀ mem j = length listed - j
 
 ruleset laws = (needs, starts, still-ready, ends, goes)
 
 pub notify-pids-spec : {M : Type 1} → statement M
 notify-pids-spec =
     tie.close
-    (tie.spec Inv-loop μ-loop (λ c. search laws) (λ c. search laws) (λ c. search laws) (λ c κs. search laws) (λ c. search laws)
-    (λ c. search laws) (λ c. search laws) (λ c. search laws) (λ c. search laws))
+    (tie.spec Inv-loop μ-loop (λ c κs. search laws) (λ c. search laws) (λ c. search laws) (λ c. search laws) (λ c. search laws)
+    (λ c κs. search laws) (λ c. search laws) (λ c. search laws) (λ c. search laws) (λ c. search laws) (λ c. search laws))
