@@ -2,7 +2,7 @@
 -- process list.
 use mathlib.Core.Bool.{not}
 use mathlib.Core.List.{List, [], _∷_}
-use Prim.Native.Nat.{ℕ, _+_, _^_}
+use Prim.Native.Nat.{ℕ, _+_}
 use lib.Dec.{eqb, ltb}
 use lib.ListN.{length}
 use Rattle.answers.specs.Number.{numberOf}
@@ -12,32 +12,30 @@ use Rattle.base.specs.Choose.{pick, when}
 use Rattle.registry.specs.Words.{revoked}
 use Rattle.revocation.specs.Log.{pairOf, absentOf}
 use Rattle.steps.specs.Replies.{Left, replied, done, refuse}
-use Rattle.revocation_steps.specs.Revocation.{logOf, logStep, freeQueues, carriedOut, queuesNeeded, cascadePairs, cascadeQueues, revokeStep}
+use Rattle.revocation_steps.specs.Revocation.{logOf, logStep, freeQueues, carriedOut, queuesNeeded, cascade, cascadeIds, cascadePairs}
 use Rattle.steps.specs.Steps.{placeIn, addStep}
 use Rattle.steps.specs.declared.Reply.{Reply}
 use Rattle.table.specs.declared.Got.{Got}
 use Rattle.table.specs.declared.Got.the-variants.{Entry, Nothing}
-use Rattle.token.specs.Rights.{holds}
+use Rattle.token.specs.Rights.{REVOKE, holds}
 use Rattle.token.specs.Token.{idOf, generationOf}
 use Rattle.world.specs.Numbers.{registeredOf, loggedOf, epochWord}
 use Rattle.world.specs.Sound.{states}
 use Rattle.world.specs.declared.Numbers.{Numbers}
 
--- Place r is registered. Already revoked: 0, nothing changes. 24 where more new pairs are needed than places free, then 25 where more new
--- queues are, both before the registry, the log or the queues change.
-unfoldable pub revoking : Numbers → ℕ → ℕ → List ℕ → List ℕ → Left Reply
-revoking d r time listed mem =
-    when (eqb (revoked (states d mem r)) 1) (record { reply = done 0; memory = mem })
-    (when (ltb (d .pairs) (loggedOf mem + length (cascadePairs d mem r))) (refuse mem LogFull)
-    (when (ltb (freeQueues d mem) (cascadeQueues d mem r listed)) (refuse mem PidTableFull)
-    (record { reply = done 0; memory = revokeStep d r time listed mem })))
-
--- The same of a cascade that is listed already: its places, their ids, and of their pairs those that the log has not.
+-- A cascade that is listed: its places, their ids, and of their pairs those that the log has not. 24 where more new pairs are needed
+-- than places free, then 25 where more new queues are, both before the registry, the log or the queues change.
 abbrev pub carryingOut : Numbers → List ℕ → List ℕ → List ℕ → ℕ → List ℕ → List ℕ → Left Reply
 carryingOut d places ids pairs time listed mem =
     when (ltb (d .pairs) (loggedOf mem + length pairs)) (refuse mem LogFull)
     (when (ltb (freeQueues d mem) (queuesNeeded d mem listed (length places))) (refuse mem PidTableFull)
     (record { reply = done 0; memory = carriedOut d places ids pairs time listed mem }))
+
+-- Place r is registered. Already revoked: 0, nothing changes.
+unfoldable pub revoking : Numbers → ℕ → ℕ → List ℕ → List ℕ → Left Reply
+revoking d r time listed mem =
+    when (eqb (revoked (states d mem r)) 1) (record { reply = done 0; memory = mem })
+    (carryingOut d (cascade d mem r) (cascadeIds d mem r) (cascadePairs d mem r) time listed mem)
 
 -- Unregistered: the token's pair joins the log if absent, epoch plus one, 0.
 unfoldable pub listing : Numbers → ℕ → List ℕ → Left Reply
@@ -57,7 +55,7 @@ abbrev pub revokingHeld : Numbers → ℕ → ℕ → List ℕ → List ℕ → 
 revokingHeld d token time listed mem Nothing visits = record { reply = replied NotFound 0 visits; memory = mem }
 revokingHeld d token time listed mem (Entry e) visits =
     let left = revokingToken d token time listed mem in
-    when (not (holds (e .rights .0) (2 ^ 4))) (record { reply = replied InsufficientRights 0 visits; memory = mem })
+    when (not (holds (e .rights .0) REVOKE)) (record { reply = replied InsufficientRights 0 visits; memory = mem })
     (record { reply = replied (left .reply .answer) 0 visits; memory = left .memory })
 
 -- A batch takes its tokens in order, goes on past 24 or 25, and answers how many gave 0.

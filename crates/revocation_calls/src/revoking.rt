@@ -3,7 +3,7 @@
 ghost use mathlib.Core.Path.{_≡_};
 ghost use Prim.Native.Nat.{_≤_};
 ghost use lib.ListN.{length};
-ghost use Rattle.steps.specs.Replies.{done};
+ghost use Rattle.steps.specs.Replies.{done, replied};
 ghost use Rattle.world.specs.Sound.{SoundAt};
 ghost use Rattle.revocation_calls.specs.Calls.{revokeOut, revokeCapabilityOut, revokeHeldOut, revokeBatchOut};
 ghost use Rattle.revocation_calls.specs.Revoking.{listing, revokingToken, revokingHeld, revokingEach};
@@ -62,6 +62,17 @@ fn revoke_token(
     list_token(mem, d, token)
 }
 
+// An answer without a value, with the visits of the call's lookup.
+fn visited(answer: Answer, visits: usize) -> Reply
+    ensures { λ r. ⌜ r ≡ replied answer 0 visits ⌝ }
+{
+    Reply {
+        answer,
+        value: 0,
+        count: visits,
+    }
+}
+
 // The entry that was looked for must be there and have REVOKE.
 fn revoke_looked_up(
     mem: &mut [u64],
@@ -79,27 +90,15 @@ fn revoke_looked_up(
 {
     let got = l.got;
     match got {
-        Got::Nothing => Reply {
-            answer: Answer::NotFound,
-            value: 0,
-            count: l.visits,
-        },
+        Got::Nothing => visited(Answer::NotFound, l.visits),
         Got::Entry(entry) => {
             let held = entry.rights;
             if !held.contains(Rights::REVOKE) {
-                return Reply {
-                    answer: Answer::InsufficientRights,
-                    value: 0,
-                    count: l.visits,
-                };
+                return visited(Answer::InsufficientRights, l.visits);
             }
             let reply = revoke_token(mem, d, token, time, listed);
             let answer = reply.answer;
-            Reply {
-                answer,
-                value: 0,
-                count: l.visits,
-            }
+            visited(answer, l.visits)
         }
     }
 }
@@ -120,7 +119,6 @@ fn revoke_each(mem: &mut [u64], d: Numbers, tokens: &[u64], time: u64, listed: &
         j += 1;
         if answer.number() == 0 {
             gave += 1;
-            continue;
         }
     }
     gave

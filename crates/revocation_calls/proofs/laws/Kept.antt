@@ -12,7 +12,7 @@ use Rattle.steps.proofs.laws.Kept.{Kept, kept-refl, kept-trans}
 use Rattle.steps.proofs.laws.RegistrySteps.{add-step-kept}
 use Rattle.steps.specs.Steps.{addStep}
 use Rattle.token.specs.Token.{idOf, generationOf}
-use Rattle.world.specs.Numbers.{loggedOf}
+use Rattle.world.specs.Numbers.{loggedOf, epochWord}
 use Rattle.world.specs.Sound.{SoundAt}
 use Rattle.world.specs.declared.Numbers.{Numbers}
 use Rattle.revocation_calls.specs.Revoking.{listing, revokingToken}
@@ -24,14 +24,14 @@ module _ (d : Numbers) (mem : List ℕ) (sound : SoundAt d mem) (token : ℕ) wh
   pairs = pairOf (idOf token) (generationOf token) ∷ []
 
   -- The token's pair joins the log if absent, and the epoch counts one.
-  pub joined-kept : pairsWith d mem token ≤ d .pairs → Kept d mem (addStep 6 1 (logStep d (newPair d mem token) mem))
+  pub joined-kept : pairsWith d mem token ≤ d .pairs → Kept d mem (addStep epochWord 1 (logStep d (newPair d mem token) mem))
   joined-kept fits =
       let joined : Kept d mem (logStep d (newPair d mem token) mem) =
       log-step-kept d mem sound (newPair d mem token) fits
       (absent-pairs (loggedOf mem) (logOf d mem) pairs one-coded)
       (absent-differ (loggedOf mem) (logOf d mem) pairs (λ j l i u e. omega arith))
       (λ pair among. absent-exactly (loggedOf mem) (logOf d mem) pairs pair .0 among .1) in
-      kept-trans d mem _ _ joined (add-step-kept d _ (joined .sound) 6 1 (omega arith) (omega arith))
+      kept-trans d mem _ _ joined (add-step-kept d _ (joined .sound) epochWord 1 (omega arith) (omega arith))
     where
       one-coded : (k : ℕ) → k < 1 → getD pairs k 0 < 2 ^ 56
       one-coded zero l = pair-coded token

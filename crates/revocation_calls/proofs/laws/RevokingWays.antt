@@ -15,7 +15,7 @@ use Rattle.steps.specs.Steps.{placeIn, addStep}
 use Rattle.steps.specs.declared.Reply.{Reply}
 use Rattle.steps.proofs.laws.Cases.{pick-by-cases, when-by-cases}
 use Rattle.token.specs.Token.{idOf, generationOf}
-use Rattle.world.specs.Numbers.{registeredOf, loggedOf}
+use Rattle.world.specs.Numbers.{registeredOf, loggedOf, epochWord}
 use Rattle.world.specs.Sound.{states}
 use Rattle.world.specs.declared.Numbers.{Numbers}
 use Rattle.revocation_calls.specs.Revoking.{revoking, listing, revokingToken}
@@ -42,7 +42,7 @@ module _ (d : Numbers) (mem : List ℕ) (P : Left Reply → Type 0) where
       → (revoked (states d mem r) ≡ 0 → pairsAfter d mem r ≤ d .pairs → cascadeQueues d mem r listed ≤ freeQueues d mem
       → P (record { reply = done 0; memory = revokeStep d r time listed mem }))
       → P (revoking d r time listed mem)
-  unfolding revoking
+  unfolding revoking revokeStep
   revoking-by-cases r time listed already full crowded goes =
       let state : ℕ = states d mem r in
       let free : ℕ = freeQueues d mem in
@@ -57,7 +57,8 @@ module _ (d : Numbers) (mem : List ℕ) (P : Left Reply → Type 0) where
 
   pub listing-by-cases :
       (token : ℕ) → (d .pairs < pairsWith d mem token → P (refuse mem LogFull))
-      → (pairsWith d mem token ≤ d .pairs → P (record { reply = done 0; memory = addStep 6 1 (logStep d (newPair d mem token) mem) }))
+      → (pairsWith d mem token ≤ d .pairs
+      → P (record { reply = done 0; memory = addStep epochWord 1 (logStep d (newPair d mem token) mem) }))
       → P (listing d token mem)
   unfolding listing
   listing-by-cases token full goes =
@@ -87,7 +88,7 @@ module _ (d : Numbers) (mem : List ℕ) (P : List ℕ → Type 0) (as-it-was : P
       (λ un fits room. goes fits)
 
   pub listing-leaves :
-      (token : ℕ) → (pairsWith d mem token ≤ d .pairs → P (addStep 6 1 (logStep d (newPair d mem token) mem)))
+      (token : ℕ) → (pairsWith d mem token ≤ d .pairs → P (addStep epochWord 1 (logStep d (newPair d mem token) mem)))
       → P (listing d token mem .memory)
   listing-leaves token goes = listing-by-cases d mem Leaves token (λ full. as-it-was) goes
 
@@ -95,7 +96,7 @@ module _ (d : Numbers) (mem : List ℕ) (P : List ℕ → Type 0) (as-it-was : P
       (token time : ℕ) (listed : List ℕ)
       → (placeIn d mem (idOf token) < registeredOf mem → pairsAfter d mem (placeIn d mem (idOf token)) ≤ d .pairs
       → P (revokeStep d (placeIn d mem (idOf token)) time listed mem))
-      → (pairsWith d mem token ≤ d .pairs → P (addStep 6 1 (logStep d (newPair d mem token) mem)))
+      → (pairsWith d mem token ≤ d .pairs → P (addStep epochWord 1 (logStep d (newPair d mem token) mem)))
       → P (revokingToken d token time listed mem .memory)
   token-leaves token time listed cascades joins =
       revoking-token-by-cases d mem Leaves token time listed

@@ -13,7 +13,7 @@ use Rattle.base.specs.Choose.{when-yes, when-no}
 use Rattle.base.specs.Written.{written, take-written}
 use Rattle.registry.specs.Children.{idsAt}
 use Rattle.registry.specs.ChildrenLaws.{ids-at-length}
-use Rattle.revocation_steps.specs.Revocation.{cascade, cascadeIds, revokeStep}
+use Rattle.revocation_steps.specs.Revocation.{cascade, cascadeIds}
 use Rattle.revocation_steps.proofs.laws.Cascade.{cascade-first}
 use Rattle.steps.specs.Replies.{done}
 use Rattle.steps.proofs.Leaving.{left-is}
@@ -56,7 +56,9 @@ ids-counted :
     length (take count (c .ids-at .last .1 .1 .1 .0)) ≡ count
 ids-counted c = length-take-le _ (c .ids-at .last .1 .1 .1 .0) (search needs)
 
-pairs-counted : (c : tie.After-keep-absent) → length (take (c .keep-absent .result) (c .keep-absent .last .1 .1 .0)) ≡ c .keep-absent .result
+pairs-counted :
+    (c : tie.After-keep-absent)
+    → length (take (c .keep-absent .result) (c .keep-absent .last .1 .1 .0)) ≡ c .keep-absent .result
 pairs-counted c = length-take-le _ (c .keep-absent .last .1 .1 .0) (search needs)
 
 state-at-requires : tie.Need-state-at-requires
@@ -77,7 +79,8 @@ ids-at-requires c κs =
 keep-absent-requires : tie.Need-keep-absent-requires
 keep-absent-requires c κs =
     let names = c .before .before .before in
-    let (sound, inside) = names .before .before .before .before .before .before .before .before .before .before .before .before .before .pre in
+    let tested = names .before .before .before .before .before .before .before .before in
+    let (sound, inside) = tested .before .before .before .before .before .pre in
     ((ready-at _ _ sound, sound .logged-fit, search needs), sound .pairs-differ)
 
 revoke-listed-requires : tie.Need-revoke-listed-requires
@@ -96,7 +99,7 @@ revoke-listed-requires c κs =
     )
 
 returns-2 : tie.Need-returns-2
-unfolding revoking revokeStep
+unfolding revoking
 returns-2 c =
     let revokes = c .before .before in
     let keeps = revokes .before .before .before .before .before .before in

@@ -14,7 +14,7 @@ use Rattle.steps.specs.Steps.{addStep}
 use Rattle.revocation_steps.proofs.laws.QueuesReadyKept.{queues-ready-marked, queues-ready-added, queues-ready-logged, mark-stays}
 use Rattle.steps.specs.Ready.{Ready, QueuesReady}
 use Rattle.steps.proofs.laws.ReadyKept.{Stays, Leaves, add-leaves}
-use Rattle.world.specs.Numbers.{loggedOf}
+use Rattle.world.specs.Numbers.{loggedOf, epochWord, revokedWord}
 use Rattle.world.specs.Regions.{registry, onRegion}
 use Rattle.world.specs.declared.Numbers.{Numbers}
 use Rattle.revocation_calls.proofs.cascade.revoke_places.Statement.{statement}
@@ -22,14 +22,14 @@ use Rattle.revocation_calls.proofs.cascade.revoke_places.Tie as tie
 
 module _ (d : Numbers) (mem order : List ℕ)
     (withMarked : List ℕ) (is-marked : withMarked ≡ onRegion d registry (marked (d .places) order) mem)
-    (withCounted : List ℕ) (is-counted : withCounted ≡ addStep 9 (length order) withMarked)
+    (withCounted : List ℕ) (is-counted : withCounted ≡ addStep revokedWord (length order) withMarked)
   where
     module _ (ready : Ready d mem) (inside : AllBelow (d .places) order) where
       stays : Stays d mem withMarked
       stays = rw is-marked (mark-stays d mem ready order inside)
 
-      leaves : Leaves d 9 ((getD withMarked 9 0 + length order) % 2 ^ 64) withMarked withCounted
-      leaves = rw is-counted (add-leaves d withMarked (stays .ready) 9 (length order) (omega arith) (omega arith))
+      leaves : Leaves d revokedWord ((getD withMarked revokedWord 0 + length order) % 2 ^ 64) withMarked withCounted
+      leaves = rw is-counted (add-leaves d withMarked (stays .ready) revokedWord (length order) (omega arith) (omega arith))
 
       -- There is still room for as many pairs.
       can-log : (count : ℕ) → loggedOf mem + count ≤ d .pairs → Ready d withCounted × (loggedOf withCounted + count ≤ d .pairs)
@@ -37,25 +37,25 @@ module _ (d : Numbers) (mem order : List ℕ)
           (leaves .ready, omega (arith, leaves .others 13 (omega arith) (λ e. omega arith), stays .head 13 (omega arith)))
 
     module _ (pairs withLogged : List ℕ) (is-logged : withLogged ≡ logStep d pairs withCounted)
-        (withEpoch : List ℕ) (is-epoch : withEpoch ≡ addStep 6 (length order) withLogged)
+        (withEpoch : List ℕ) (is-epoch : withEpoch ≡ addStep epochWord (length order) withLogged)
       where
         can-notify :
             Ready d mem → QueuesReady d mem → AllBelow (d .places) order → loggedOf mem + length pairs ≤ d .pairs → QueuesReady d withEpoch
         can-notify ready queues inside fits =
             let of-marked : QueuesReady d withMarked = rw is-marked (queues-ready-marked d mem queues order inside) in
             let of-counted : QueuesReady d withCounted =
-            rw is-counted (queues-ready-added d withMarked of-marked 9 (length order) (omega arith) (omega arith)) in
+            rw is-counted (queues-ready-added d withMarked of-marked revokedWord (length order) (omega arith) (omega arith)) in
             let of-logged : QueuesReady d withLogged =
             rw is-logged (queues-ready-logged d withCounted of-counted pairs (can-log ready inside (length pairs) fits .1)) in
-            rw is-epoch (queues-ready-added d withLogged of-logged 6 (length order) (omega arith) (omega arith))
+            rw is-epoch (queues-ready-added d withLogged of-logged epochWord (length order) (omega arith) (omega arith))
 
         all-done :
             (listed ids : List ℕ) (time : ℕ) (after : List ℕ)
             → after ≡ notifyAll d listed (take (length ids - 1) (drop 1 ids)) time withEpoch
             → after
             ≡ notifyAll d listed (drop 1 ids) time
-            (addStep 6 (length order)
-            (logStep d pairs (addStep 9 (length order) (onRegion d registry (marked (d .places) order) mem))))
+            (addStep epochWord (length order)
+            (logStep d pairs (addStep revokedWord (length order) (onRegion d registry (marked (d .places) order) mem))))
         all-done listed ids time after is =
             let whole : take (length ids - 1) (drop 1 ids) ≡ drop 1 ids =
             take-all (length ids - 1) (drop 1 ids) (omega (arith, length-drop 1 ids)) in

@@ -16,7 +16,7 @@ use Rattle.steps.proofs.Leaving.{left-is}
 use Rattle.steps.proofs.laws.Ready.{ready-at}
 use Rattle.steps.specs.Replies.{done, refuse}
 use Rattle.token.specs.Token.{idOf, generationOf}
-use Rattle.world.specs.Numbers.{loggedOf}
+use Rattle.world.specs.Numbers.{loggedOf, epochWord}
 use Rattle.world.specs.declared.Numbers.{Numbers}
 use Rattle.revocation_calls.specs.Revoking.{listing}
 use Rattle.revocation_calls.proofs.Pairs.{token-pair}
@@ -42,7 +42,7 @@ module _ (k : ℕ) (xs : List ℕ) (long : length xs ≡ 1) (few : k ≤ 1) wher
 
     joins :
         loggedOf mem + k ≤ d .pairs
-        → listing d token mem ≡ record { reply = done 0; memory = addStep 6 1 (logStep d (take k xs) mem) }
+        → listing d token mem ≡ record { reply = done 0; memory = addStep epochWord 1 (logStep d (take k xs) mem) }
     unfolding listing
     joins room = rw absent (when-no _ _ _ (le-ltb _ _ (fits _ _ room)))
 
@@ -85,7 +85,7 @@ returns-2 c =
     let tested = joined .before .before .before in
     let back = tested .before .before .before in
     let (kept, few) = back .before .keep-absent .ensures in
-    left-is (c .done .ensures) (counted .add .ensures ∙ ap (addStep 6 1) (joined .append-pairs .ensures))
+    left-is (c .done .ensures) (counted .add .ensures ∙ ap (addStep epochWord 1) (joined .append-pairs .ensures))
     (joins _ _ (back .pairs2 .given) few _ _ _ kept (tested .if1 .left))
 
 pub list-token-spec : {M : Type 1} → statement M
