@@ -64,7 +64,6 @@ fn remove_queue(mem: &mut [u64], d: Numbers, q: usize)
 {
     if q < d.queues {
         free_at(mem, d, q);
-        return;
     }
 }
 

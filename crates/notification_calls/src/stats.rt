@@ -22,8 +22,6 @@ fn used_queues(mem: &[u64], d: Numbers) -> usize
     while q < d.queues {
         if 0 < queue_length(mem, d, q) {
             used += 1;
-            q += 1;
-            continue;
         }
         q += 1;
     }

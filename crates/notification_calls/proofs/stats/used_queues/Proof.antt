@@ -1,6 +1,7 @@
 -- Those before q are counted.
 use denote.Ref.{now}
 use mathlib.Core.List.{List}
+use mathlib.Core.Logic.{⊎-elim}
 use mathlib.Core.Path.{_≡_, sym, ap, _∙_}
 use Prim.Native.Nat.{ℕ, _+_, _-_, _<_, _≤_}
 use borrow.Author.Needs.{needs}
@@ -49,8 +50,11 @@ returns c =
     let (within, few, counted) = turn .loop .inv in
     ends (begun .d) (now (begun .mem)) _ _ counted within (c .if1 .left)
 
+loop-again : tie.Need-loop-again Inv-loop μ-loop
+loop-again c = ⊎-elim (λ (some, more). rw more (search laws)) (λ (none, same). rw same (search laws)) (c .if2 .came)
+
 pub used-queues-spec : {M : Type 1} → statement M
 used-queues-spec =
     tie.close
     (tie.spec Inv-loop μ-loop (λ c. search laws) (λ c κs. search laws) (λ c. search laws) (λ c. search laws) (λ c. search laws)
-    (λ c. search laws) (λ c. search laws) (λ c. search laws) (λ c. search laws) returns)
+    loop-again returns)
