@@ -23,7 +23,7 @@ use Rattle.steps.specs.Steps.{spaceOf, lookupStep, placeIn, objects}
 use Rattle.steps.specs.declared.Reply.{Reply}
 use Rattle.steps.proofs.laws.SpaceSteps.{lookup-step-kept}
 use Rattle.token.specs.Token.{idOf}
-use Rattle.world.specs.Numbers.{numbersOf, epochOf, registeredOf, recycledOf, loggedOf}
+use Rattle.world.specs.Numbers.{numbersOf, epochOf, registeredOf, recycledOf, loggedOf, epochWord, revokedWord}
 use Rattle.world.specs.Regions.{log, view}
 use Rattle.world.specs.Sound.{ids, states, links, recycled, logPairs, SoundAt, Sound}
 use Rattle.world.specs.declared.Numbers.{Numbers}
@@ -72,8 +72,8 @@ pub record Revokes (d : Numbers) (r : ℕ) (mem after : List ℕ) : Type 0 where
 -- changes.
 pub record Counts (d : Numbers) (r : ℕ) (mem after : List ℕ) : Type 0 where
   pub epoch : epochOf after ≡ (epochOf mem + length (cascade d mem r)) % 2 ^ 64
-  pub revoked-ids : getD after 9 0 ≡ (getD mem 9 0 + length (cascade d mem r)) % 2 ^ 64
-  pub others : (j : ℕ) → j < 16 → j ≢ 6 → j ≢ 9 → j ≢ 13 → getD after j 0 ≡ getD mem j 0
+  pub revoked-ids : getD after revokedWord 0 ≡ (getD mem revokedWord 0 + length (cascade d mem r)) % 2 ^ 64
+  pub others : (j : ℕ) → j < 16 → j ≢ epochWord → j ≢ revokedWord → j ≢ 13 → getD after j 0 ≡ getD mem j 0
 
 module _ (d : Numbers) (mem : List ℕ) (sound : SoundAt d mem) (r : ℕ) (inside : r < registeredOf mem) where
   -- Revoked already: so is all that descends from it.

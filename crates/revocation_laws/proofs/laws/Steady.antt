@@ -24,7 +24,7 @@ use Rattle.steps.proofs.laws.SpaceSteps.{lookup-step-kept}
 use Rattle.table.specs.declared.Got.{Got}
 use Rattle.table.specs.declared.Got.the-variants.{Entry, Nothing}
 use Rattle.token.specs.Rights.{holds}
-use Rattle.world.specs.Numbers.{numbersOf, registeredOf}
+use Rattle.world.specs.Numbers.{numbersOf, registeredOf, epochWord}
 use Rattle.world.specs.Sound.{SoundAt, Sound}
 use Rattle.world.specs.declared.Numbers.{Numbers}
 use Rattle.revocation_laws.proofs.laws.NoticeWays.{notify-by-cases, drain-by-cases}
@@ -41,7 +41,7 @@ pub record Steady (d : Numbers) (R : List ℕ → List ℕ → Type 0) : Type 0 
       → (time : ℕ) (listed : List ℕ) → R mem (revokeStep d r time listed mem)
   pub joins :
       (mem : List ℕ) → SoundAt d mem → (token : ℕ) → pairsWith d mem token ≤ d .pairs
-      → R mem (addStep 6 1 (logStep d (newPair d mem token) mem))
+      → R mem (addStep epochWord 1 (logStep d (newPair d mem token) mem))
   -- A notice for a pid; a queue that is no more.
   pub notifies :
       (mem : List ℕ) → SoundAt d mem → (pid id time reason : ℕ) → reason ≤ 3 → R mem (notifyStep d pid id time reason mem)

@@ -23,7 +23,7 @@ use Rattle.steps.proofs.laws.Kept.{Kept}
 use Rattle.steps.proofs.laws.RegistryChanged.{RegistryChanged, word-changed}
 use Rattle.steps.proofs.laws.SpaceSteps.{lookup-step-kept}
 use Rattle.token.specs.Token.{idOf, generationOf}
-use Rattle.world.specs.Numbers.{numbersOf, epochOf, registeredOf, loggedOf}
+use Rattle.world.specs.Numbers.{numbersOf, epochOf, registeredOf, loggedOf, epochWord}
 use Rattle.world.specs.Regions.{registry, log, queue, view}
 use Rattle.world.specs.Sound.{logPairs, SoundAt}
 use Rattle.world.specs.Views.{length-view}
@@ -46,7 +46,7 @@ pub record OnlyLogged (d : Numbers) (pair : ℕ) (mem after : List ℕ) : Type 0
   pub log-once : Differ (loggedOf after) (logPairs d after)
   -- The epoch counts one, and no other word of the head but the number of logged pairs changes.
   pub epoch : epochOf after ≡ (epochOf mem + 1) % 2 ^ 64
-  pub others : (j : ℕ) → j < 16 → j ≢ 6 → j ≢ 13 → getD after j 0 ≡ getD mem j 0
+  pub others : (j : ℕ) → j < 16 → j ≢ epochWord → j ≢ 13 → getD after j 0 ≡ getD mem j 0
 
 module _ (d : Numbers) (mem : List ℕ) (sound : SoundAt d mem) (token : ℕ) where
   abbrev pair : ℕ
@@ -66,14 +66,14 @@ module _ (d : Numbers) (mem : List ℕ) (sound : SoundAt d mem) (token : ℕ) wh
     between = logStep d new mem
 
     abbrev after : List ℕ
-    after = addStep 6 1 between
+    after = addStep epochWord 1 between
 
     holdings : SameHoldings d mem between
     holdings = log-step-holdings d mem (sound .long-enough) new fits
 
-    epoch-counted : RegistryChanged d (view d registry between) 6 ((getD between 6 0 + 1) % 2 ^ 64) between after
+    epoch-counted : RegistryChanged d (view d registry between) epochWord ((epochOf between + 1) % 2 ^ 64) between after
     unfolding addStep
-    epoch-counted = word-changed d between (rw (holdings .same-length) (sound .long-enough)) 6 _ (omega arith) (omega arith)
+    epoch-counted = word-changed d between (rw (holdings .same-length) (sound .long-enough)) epochWord _ (omega arith) (omega arith)
 
     room : n + length new ≤ length lg
     room = omega (arith, length-view d log mem tt (sound .long-enough))
@@ -99,7 +99,7 @@ module _ (d : Numbers) (mem : List ℕ) (sound : SoundAt d mem) (token : ℕ) wh
       log-once = kept .sound .pairs-differ;
       epoch =
           epoch-counted .new-word
-          ∙ ap (λ epoch. (epoch + 1) % 2 ^ 64) (log-step-word d mem (sound .long-enough) new fits 6 (omega arith) (omega arith));
+          ∙ ap (λ epoch. (epoch + 1) % 2 ^ 64) (log-step-word d mem (sound .long-enough) new fits epochWord (omega arith) (omega arith));
       others = λ j l no-epoch no-logged.
           epoch-counted .same-word j l no-epoch ∙ log-step-word d mem (sound .long-enough) new fits j l no-logged;
     }
