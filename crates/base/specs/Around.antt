@@ -24,7 +24,8 @@ sum-around f c h l =
     let walk : ℕ → ℕ = λ t. f ((h + t) % c) in
     let m : ℕ = c - h in
     let up : sum walk m ≡ sum (λ t. f (h + t)) m = sum-ext walk (λ t. f (h + t)) m (λ t u. ap f (mod-eq-of-lt (omega arith))) in
-    let past : (t : ℕ) → t < h → (h + (m + t)) % c ≡ t = λ t u. ⊎-elim (λ w. omega arith) (λ w. omega arith) (wrap (h + (m + t)) c (omega arith)) in
+    let past : (t : ℕ) → t < h → (h + (m + t)) % c ≡ t =
+    λ t u. ⊎-elim (λ w. omega arith) (λ w. omega arith) (wrap (h + (m + t)) c (omega arith)) in
     let over : sum (λ t. walk (m + t)) h ≡ sum f h = sum-ext (λ t. walk (m + t)) f h (λ t u. ap f (past t u)) in
     let walked : sum walk (m + h) ≡ sum walk c = ap (sum walk) (omega arith) in
     let whole : sum f (h + m) ≡ sum f c = ap (sum f) (omega arith) in

@@ -45,7 +45,8 @@ chained-none xs prevs n some-heads few room = record {
 }
 
 -- The next place is chained by linking it to its bucket's head, and making it the head.
-pub chained-more : (xs heads prevs : List ℕ) (j b : ℕ) → Chained xs heads prevs j → j < length xs → b ≡ bucketOf (length heads) (getD xs j 0)
+pub chained-more : (xs heads prevs : List ℕ) (j b : ℕ) → Chained xs heads prevs j → j < length xs
+    → b ≡ bucketOf (length heads) (getD xs j 0)
     → b < length heads → Chained xs (set heads b (j + 1)) (set prevs j (getD heads b 0)) (j + 1)
 chained-more xs heads prevs j b chained l e inside =
     let n : ℕ = length heads in

@@ -52,7 +52,8 @@ unfolding last
 last-last p q within zero = refl
 last-last p q within (suc n) = go (q n) refl (p n) refl (last-last p q within n)
   where
-    go : (b : Bool) → q n ≡ b → (a : Bool) → p n ≡ a → last p (last q n) ≡ last p n → last p (pick b (suc n) (last q n)) ≡ pick a (suc n) (last p n)
+    go : (b : Bool) → q n ≡ b → (a : Bool) → p n ≡ a → last p (last q n) ≡ last p n
+        → last p (pick b (suc n) (last q n)) ≡ pick a (suc n) (last p n)
     go true e a h ih = rw h
     go false e true h ih = absurd (true≢false (sym (within n h) ∙ e))
     go false e false h ih = ih

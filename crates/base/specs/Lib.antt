@@ -16,4 +16,4 @@ pub mod Members
 pub mod Sifted
 pub mod Chain
 pub mod Place
-pub mod Listed
+pub mod Compacted

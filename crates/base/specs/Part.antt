@@ -16,7 +16,8 @@ module _ {ℓ} {A : Type ℓ} where
   onPart a k f xs = take a xs ++ (f (take k (drop a xs)) ++ drop k (drop a xs))
 
   -- What a call leaves that was lent the places from a up to e, in the words of the part's width.
-  pub lent : (a k e : ℕ) (f : List A → List A) (xs ys : List A) → a + k ≡ e → ys ≡ f (take (e - a) (drop a xs)) → take a xs ++ (ys ++ drop (e - a) (drop a xs)) ≡ onPart a k f xs
+  pub lent : (a k e : ℕ) (f : List A → List A) (xs ys : List A) → a + k ≡ e → ys ≡ f (take (e - a) (drop a xs))
+      → take a xs ++ (ys ++ drop (e - a) (drop a xs)) ≡ onPart a k f xs
   lent a k e f xs ys w h = rw (h, ← w, add-sub-cancel-left)
 
   -- ---- a part
@@ -42,7 +43,8 @@ module _ {ℓ} {A : Type ℓ} where
 
   -- ---- where the part lies in a list that is laid out as two or three
 
-  onPart-at : (p u r : List A) (a k : ℕ) (f : List A → List A) → length p ≡ a → length u ≡ k → onPart a k f (p ++ (u ++ r)) ≡ p ++ (f u ++ r)
+  onPart-at : (p u r : List A) (a k : ℕ) (f : List A → List A) → length p ≡ a → length u ≡ k
+      → onPart a k f (p ++ (u ++ r)) ≡ p ++ (f u ++ r)
   onPart-at p u r a k f e h = rw (take-at p, drop-at p, take-at u, drop-at u)
 
   -- ---- a list with a part changed
@@ -51,7 +53,8 @@ module _ {ℓ} {A : Type ℓ} where
   pub onPart-same : (a k : ℕ) (f : List A → List A) (xs : List A) → f (part a k xs) ≡ part a k xs → onPart a k f xs ≡ xs
   onPart-same a k f xs e = rw (e, take-append-drop, take-append-drop)
 
-  pub length-onPart : (a k : ℕ) (f : List A → List A) (xs : List A) → length (f (part a k xs)) ≡ length (part a k xs) → length (onPart a k f xs) ≡ length xs
+  pub length-onPart : (a k : ℕ) (f : List A → List A) (xs : List A) → length (f (part a k xs)) ≡ length (part a k xs)
+      → length (onPart a k f xs) ≡ length xs
   length-onPart a k f xs kept = simp (length-append, kept, length-take, length-drop) (omega arith)
 
   pub onPart-set : (a k : ℕ) (xs : List A) (i : ℕ) (v : A) → i < k → onPart a k (λ ys. set ys i v) xs ≡ set xs (a + i) v

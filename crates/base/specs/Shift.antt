@@ -107,30 +107,42 @@ moved-none to from end xs l =
     rw (drop-of-length-le (take end xs) empty, place, take-append-drop)
 
 -- Down, the first word goes first.
-moved-first : (to from end v : ℕ) (xs : List ℕ) → v ≡ getD xs from 0 → to ≤ from → from < end → end ≤ length xs → moved (to + 1) (from + 1) end (set xs to v) ≡ moved to from end xs
+moved-first : (to from end v : ℕ) (xs : List ℕ) → v ≡ getD xs from 0 → to ≤ from → from < end → end ≤ length xs
+    → moved (to + 1) (from + 1) end (set xs to v) ≡ moved to from end xs
 unfolding moved
 moved-first to from end v xs h l m fits =
     let more : from < length (take end xs) = rw length-take (omega arith) in
     let done : take (to + 1) (set xs to v) ≡ take to xs ++ (v ∷ []) = rw add-one (take-suc-set xs to v (omega arith)) in
     let next : drop from (take end xs) ≡ v ∷ drop (from + 1) (take end xs) = rw (add-one, drop-cons (take end xs) from 0, getD-take, h) in
     let place : to + 1 + (end - (from + 1)) ≡ to + (end - from) = omega arith in
-    rw (done, place, take-set-lt end xs to v (omega arith), drop-set-lt (from + 1) (take end xs) to v (omega arith), drop-set-lt (to + (end - from)) xs to v (omega arith), next, append-assoc)
+    rw (
+      done,
+      place,
+      take-set-lt end xs to v (omega arith),
+      drop-set-lt (from + 1) (take end xs) to v (omega arith),
+      drop-set-lt (to + (end - from)) xs to v (omega arith),
+      next,
+      append-assoc,
+    )
 
 -- Up, the last.
-moved-last : (to from end v : ℕ) (xs : List ℕ) → v ≡ getD xs end 0 → from ≤ to → from ≤ end → to + (end - from) < length xs → moved to from end (set xs (to + (end - from)) v) ≡ moved to from (end + 1) xs
+moved-last : (to from end v : ℕ) (xs : List ℕ) → v ≡ getD xs end 0 → from ≤ to → from ≤ end → to + (end - from) < length xs
+    → moved to from end (set xs (to + (end - from)) v) ≡ moved to from (end + 1) xs
 unfolding moved
 moved-last to from end v xs h l m fits =
     let n : ℕ = to + (end - from) in
     let front : length (take n xs) ≡ n = length-take-le n xs (omega arith) in
     let here : drop n (set xs n v) ≡ v ∷ drop (n + 1) xs = rw (add-one, set-split xs n v fits, drop-at (take n xs)) in
     let under : from ≤ length (take end xs) = rw length-take (omega arith) in
-    let more : drop from (take (end + 1) xs) ≡ drop from (take end xs) ++ (v ∷ []) = rw (add-one, take-suc xs end 0 (omega arith), drop-append-le, h) in
+    let more : drop from (take (end + 1) xs) ≡ drop from (take end xs) ++ (v ∷ []) =
+    rw (add-one, take-suc xs end 0 (omega arith), drop-append-le, h) in
     let place : to + (end + 1 - from) ≡ n + 1 = omega arith in
     rw (take-set-le to xs n v (omega arith), take-set-le end xs n v (omega arith), here, more, place, append-assoc)
 
 -- ---- the turns of the two loops: what is left to shift, shifted, is the answer ys, and the list keeps its length n
 
-pub shift-down-turn : (i end n : ℕ) (xs ys : List ℕ) → shiftedDown i end xs ≡ ys → length xs ≡ n → end ≤ n → i + 1 < end → shiftedDown (i + 1) end (set xs i (getD xs (i + 1) 0)) ≡ ys
+pub shift-down-turn : (i end n : ℕ) (xs ys : List ℕ) → shiftedDown i end xs ≡ ys → length xs ≡ n → end ≤ n → i + 1 < end
+    → shiftedDown (i + 1) end (set xs i (getD xs (i + 1) 0)) ≡ ys
 unfolding shiftedDown
 shift-down-turn i end n xs ys e w fits l = moved-first i (i + 1) end (getD xs (i + 1) 0) xs refl (omega arith) l (omega arith) ∙ e
 
@@ -138,7 +150,8 @@ pub shift-down-done : (i end : ℕ) (xs ys : List ℕ) → shiftedDown i end xs 
 unfolding shiftedDown
 shift-down-done i end xs ys e l = sym (moved-none i (i + 1) end xs l) ∙ e
 
-pub shift-up-turn : (at i n : ℕ) (xs ys : List ℕ) → shiftedUp at i xs ≡ ys → length xs ≡ n → i < n → at < i → shiftedUp at (i - 1) (set xs i (getD xs (i - 1) 0)) ≡ ys
+pub shift-up-turn : (at i n : ℕ) (xs ys : List ℕ) → shiftedUp at i xs ≡ ys → length xs ≡ n → i < n → at < i
+    → shiftedUp at (i - 1) (set xs i (getD xs (i - 1) 0)) ≡ ys
 unfolding shiftedUp
 shift-up-turn at i n xs ys e w fits l =
     let place : at + 1 + (i - 1 - at) ≡ i = omega arith in

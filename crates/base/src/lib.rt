@@ -1,4 +1,4 @@
-// What everything above shares.
+// Ground that every crate above shares: arithmetic on words, words that differ and where one stands, words moved by a place.
 pub mod arith;
 pub mod distinct;
 pub mod shift;

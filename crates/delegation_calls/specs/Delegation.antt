@@ -19,7 +19,7 @@ use Rattle.steps.specs.declared.Taken.{Taken}
 use Rattle.steps.specs.declared.Taken.the-variants.{Id, Exhausted}
 use Rattle.table.specs.declared.Got.{Got}
 use Rattle.table.specs.declared.Got.the-variants.{Entry, Nothing}
-use Rattle.token.specs.Rights.{holds, common}
+use Rattle.token.specs.Rights.{GRANT, holds, common}
 use Rattle.token.specs.Token.{idOf, typeOf}
 use Rattle.world.specs.Numbers.{registeredOf, delegatedWord}
 use Rattle.world.specs.Sound.{ids, states, links}
@@ -101,7 +101,7 @@ abbrev pub granting : Numbers → ℕ → ℕ → ℕ → List ℕ → Got → L
 granting d target token rights mem Nothing = refuse mem InvalidCapability
 granting d target token rights mem (Entry e) =
     let both-sets = common (e .rights .0) rights in
-    when (not (holds (e .rights .0) (2 ^ 3))) (refuse mem PermissionDenied)
+    when (not (holds (e .rights .0) GRANT)) (refuse mem PermissionDenied)
     (offering d target token both-sets (offered d target token both-sets mem))
 
 -- ---- the call

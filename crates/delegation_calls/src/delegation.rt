@@ -1,4 +1,4 @@
-// Delegate: a capability of its own for another space, recorded under its parent.
+// Delegate: the target space gets a child of the capability, with the rights that both sides have, or the child that it holds already.
 ghost use mathlib.Core.Path.{_≡_};
 ghost use Prim.Native.Nat.{_<_};
 ghost use Rattle.space.specs.Lookup.{lookedUp};

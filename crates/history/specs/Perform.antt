@@ -12,7 +12,7 @@ use Rattle.revocation_calls.specs.Calls as revocation
 use Rattle.space_calls.specs.Calls as space
 use Rattle.space_calls.specs.declared.EntryReply.{EntryReply}
 use Rattle.space_calls.specs.declared.StatsReply.{StatsReply as SpaceStatsReply}
-use Rattle.steps.specs.Replies.{Left, Listed}
+use Rattle.steps.specs.Replies.{Left, WithArea}
 use Rattle.steps.specs.declared.Reply.{Reply}
 use Rattle.world.specs.Open.{opening}
 use Rattle.history.specs.Call.{Reading, Accepting, Changing, Call, open-world, reads, accepts, changes}
@@ -29,7 +29,7 @@ pub data Answered : Type 0 where
   statistics : StatsReply → Answered
   tree : TreeReply → Answered
   queues : QueuesReply → Answered
-  list : Listed → Answered
+  list : WithArea → Answered
 
 -- The answer of document 01's table in it.
 abbrev pub answerOf : Answered → Answer

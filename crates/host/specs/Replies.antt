@@ -2,7 +2,7 @@
 use mathlib.Core.List.{List}
 use Prim.Native.Nat.{ℕ}
 use Rattle.answers.specs.Number.{numberOf}
-use Rattle.steps.specs.Replies.{Left, Listed}
+use Rattle.steps.specs.Replies.{Left, WithArea}
 use Rattle.steps.specs.declared.Reply.{Reply}
 use Rattle.host.specs.declared.replies.CallAnswer.{CallAnswer}
 
@@ -14,9 +14,9 @@ unfoldable pub told : {A B : Type 0} → (A → B) → Left A → Left B
 told seen left = record { reply = seen (left .reply); memory = left .memory }
 
 -- What a call leaves of a lent area, with its reply seen so.
-pub record ListedAnswer : Type 0 where
+pub record AreaAnswer : Type 0 where
   pub reply : CallAnswer
   pub area : List ℕ
 
-unfoldable pub listedAnswer : Listed → ListedAnswer
-listedAnswer l = record { reply = callAnswer (l .reply); area = l .area }
+unfoldable pub areaAnswer : WithArea → AreaAnswer
+areaAnswer l = record { reply = callAnswer (l .reply); area = l .area }

@@ -7,7 +7,14 @@ use Rattle.host.specs.declared.spaces.StatsAnswer.{StatsAnswer}
 
 unfoldable pub entryAnswer : EntryReply → EntryAnswer
 entryAnswer r =
-    record { answer = numberOf (r .answer); token = r .token .0; object = r .object; rights = r .rights .0; uses = r .uses; visits = r .visits }
+    record {
+      answer = numberOf (r .answer);
+      token = r .token .0;
+      object = r .object;
+      rights = r .rights .0;
+      uses = r .uses;
+      visits = r .visits;
+    }
 
 unfoldable pub statsAnswer : StatsReply → StatsAnswer
 statsAnswer r = record { answer = numberOf (r .answer); hits = r .hits; misses = r .misses; «total_caps» = r .«total_caps» }

@@ -4,7 +4,7 @@ ghost use mathlib.Core.Path.{_≡_};
 ghost use Rattle.delegation_calls.specs.Delegation.{delegateOut};
 ghost use Rattle.manager_calls.specs.Calls.{createOut, deleteOut, checkOut, isValidOut, statsOut, childrenOut, treeStatsOut, censusOut};
 ghost use Rattle.host.specs.Manager.{managerAnswer, treeAnswer};
-ghost use Rattle.host.specs.Replies.{callAnswer, told, listedAnswer};
+ghost use Rattle.host.specs.Replies.{callAnswer, told, areaAnswer};
 use super::replies::CallAnswer;
 use super::replies::answered;
 use delegation_calls::delegate;
@@ -129,7 +129,7 @@ pub extern "C" fn stonespry_manager_stats(mem: &[u64]) -> ManagerAnswer
 pub extern "C" fn stonespry_get_children(mem: &[u64], id: u64, area: &mut [u64]) -> CallAnswer
     ensures { λ r. ⌜
         record { reply = r; area = now (area .exit) }
-        ≡ listedAnswer (childrenOut (now (mem .entry)) id (now (area .entry)))
+        ≡ areaAnswer (childrenOut (now (mem .entry)) id (now (area .entry)))
         ⌝ }
 {
     answered(manager_calls::get_children(mem, id, area))

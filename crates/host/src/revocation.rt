@@ -4,7 +4,7 @@
 ghost use mathlib.Core.Path.{_≡_};
 ghost use Rattle.notification_calls.specs.Calls.{notifyOut, drainOut, peekOut, notificationCountOut, cleanupOut, notificationStatsOut};
 ghost use Rattle.revocation_calls.specs.Calls.{revokeOut, revokeCapabilityOut, revokeHeldOut, revokeBatchOut, isRevokedOut, epochOut, descendantsOut, reasonOut};
-ghost use Rattle.host.specs.Replies.{callAnswer, told, listedAnswer};
+ghost use Rattle.host.specs.Replies.{callAnswer, told, areaAnswer};
 ghost use Rattle.host.specs.Revocation.{queuesAnswer};
 use super::replies::CallAnswer;
 use super::replies::answered;
@@ -117,7 +117,7 @@ pub extern "C" fn stonespry_get_derivation_tree(
 ) -> CallAnswer
     ensures { λ r. ⌜
         record { reply = r; area = now (area .exit) }
-        ≡ listedAnswer (descendantsOut (now (mem .entry)) id (now (area .entry)))
+        ≡ areaAnswer (descendantsOut (now (mem .entry)) id (now (area .entry)))
         ⌝ }
 {
     answered(revocation_calls::get_derivation_tree(mem, id, area))
@@ -149,7 +149,7 @@ pub extern "C" fn stonespry_drain_notifications(
 ) -> CallAnswer
     ensures { λ r. ⌜
         record { reply = record { reply = r; area = now (area .exit) }; memory = now (mem .exit) }
-        ≡ told listedAnswer (drainOut (now (mem .entry)) pid (now (area .entry)))
+        ≡ told areaAnswer (drainOut (now (mem .entry)) pid (now (area .entry)))
         ⌝ }
 {
     answered(notification_calls::drain_notifications(mem, pid, area))
@@ -161,7 +161,7 @@ pub extern "C" fn stonespry_peek_notifications(
     pid: u64,
     area: &mut [u64],
 ) -> CallAnswer
-    ensures { λ r. ⌜ record { reply = r; area = now (area .exit) } ≡ listedAnswer (peekOut (now (mem .entry)) pid (now (area .entry))) ⌝ }
+    ensures { λ r. ⌜ record { reply = r; area = now (area .exit) } ≡ areaAnswer (peekOut (now (mem .entry)) pid (now (area .entry))) ⌝ }
 {
     answered(notification_calls::peek_notifications(mem, pid, area))
 }
@@ -190,7 +190,7 @@ pub extern "C" fn stonespry_notification_stats(mem: &[u64]) -> QueuesAnswer
 // The name of a reason; the area is bytes.
 #[no_mangle]
 pub extern "C" fn stonespry_write_reason(reason: u8, area: &mut [u8]) -> CallAnswer
-    ensures { λ r. ⌜ record { reply = r; area = now (area .exit) } ≡ listedAnswer (reasonOut «reason» (now (area .entry))) ⌝ }
+    ensures { λ r. ⌜ record { reply = r; area = now (area .exit) } ≡ areaAnswer (reasonOut «reason» (now (area .entry))) ⌝ }
 {
     answered(revocation_calls::write_reason(reason, area))
 }

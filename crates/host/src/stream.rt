@@ -1,7 +1,7 @@
 // The request stream for a host: a whole run over records that the host has read, on memory that it lends, as the program `stream` does it.
 ghost use mathlib.Core.Path.{_≡_};
 ghost use Rattle.request.specs.Run.{runOut};
-ghost use Rattle.host.specs.Replies.{told, listedAnswer};
+ghost use Rattle.host.specs.Replies.{told, areaAnswer};
 use super::replies::CallAnswer;
 use super::replies::answered;
 
@@ -10,7 +10,7 @@ use super::replies::answered;
 pub extern "C" fn stonespry_run(records: &[u8], mem: &mut [u64], lines: &mut [u8]) -> CallAnswer
     ensures { λ r. ⌜
         record { reply = record { reply = r; area = now (lines .exit) }; memory = now (mem .exit) }
-        ≡ told listedAnswer (runOut (now (records .entry)) (now (mem .entry)) (now (lines .entry)))
+        ≡ told areaAnswer (runOut (now (records .entry)) (now (mem .entry)) (now (lines .entry)))
         ⌝ }
 {
     answered(request::run::run(records, mem, lines))

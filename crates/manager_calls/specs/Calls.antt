@@ -14,7 +14,7 @@ use Rattle.registry.specs.Children.{childIds, parents, edges, strays}
 use Rattle.space.specs.Ids.{entryIds}
 use Rattle.space.specs.Lookup.{lookedUp}
 use Rattle.steps.specs.Enter.{onWorld, onSpace}
-use Rattle.steps.specs.Replies.{Left, Listed, replied, done, refusal, refuse}
+use Rattle.steps.specs.Replies.{Left, WithArea, replied, done, refusal, refuse}
 use Rattle.steps.specs.Steps.{spaceOf, lookupStep, takenId, takeStep, placeIn, registerStep, unregisterStep, recycleStep, childrenOf, addStep}
 use Rattle.steps.specs.declared.Reply.{Reply}
 use Rattle.steps.specs.declared.Taken.{Taken}
@@ -97,7 +97,7 @@ statsOut mem =
     record { answer = Done; created = getD mem 7 0; delegated = getD mem 8 0; revoked = getD mem 9 0; deleted = getD mem 10 0 })
 
 -- The children of an id in list order, to the area; the value is how many. 21 for an id over 2^48-1 or an area too short.
-unfoldable pub childrenOut : List ℕ → ℕ → List ℕ → Listed
+unfoldable pub childrenOut : List ℕ → ℕ → List ℕ → WithArea
 childrenOut mem id area =
     onWorld (λ a. record { reply = refusal a; area = area }) mem (λ d.
     let p = placeIn d mem id in

@@ -13,7 +13,7 @@ use Rattle.base.specs.Written.{written}
 use Rattle.revocation.specs.Queue.{notices}
 use Rattle.revocation_steps.specs.Revocation.{queueFor, freeQueue, notifyStep, freeStep}
 use Rattle.steps.specs.Enter.{onWorld}
-use Rattle.steps.specs.Replies.{Left, Listed, done, refusal, refuse}
+use Rattle.steps.specs.Replies.{Left, WithArea, done, refusal, refuse}
 use Rattle.steps.specs.declared.Reply.{Reply}
 use Rattle.world.specs.Regions.{queue, view}
 use Rattle.world.specs.Sound.{lengths}
@@ -41,10 +41,10 @@ abbrev pub countFor : Numbers → List ℕ → ℕ → ℕ
 countFor d mem q = pick (ltb q (d .queues)) (lengths d mem q) 0
 
 -- They go to the area; the value is how many notices. 21 for an area too short.
-abbrev pub peeked : Numbers → List ℕ → ℕ → List ℕ → Listed
+abbrev pub peeked : Numbers → List ℕ → ℕ → List ℕ → WithArea
 peeked d mem q area = record { reply = done (countFor d mem q); area = written (noticesFor d mem q) area }
 
-unfoldable pub peekOut : List ℕ → ℕ → List ℕ → Listed
+unfoldable pub peekOut : List ℕ → ℕ → List ℕ → WithArea
 peekOut mem pid area =
     onWorld (λ a. record { reply = refusal a; area = area }) mem (λ d.
     let q = queueFor d mem pid in
@@ -54,7 +54,7 @@ peekOut mem pid area =
 abbrev pub without : Numbers → List ℕ → ℕ → List ℕ
 without d mem q = pick (ltb q (d .queues)) (freeStep d q mem) mem
 
-unfoldable pub drainOut : List ℕ → ℕ → List ℕ → Left Listed
+unfoldable pub drainOut : List ℕ → ℕ → List ℕ → Left WithArea
 drainOut mem pid area =
     onWorld (λ a. record { reply = record { reply = refusal a; area = area }; memory = mem }) mem (λ d.
     let q = queueFor d mem pid in

@@ -45,7 +45,8 @@ pub ruleset one-id = (needs, hold-found, hold-none, release-found, release-few, 
 -- ---- a list of ids: what is left to do, done, is the answer ys
 
 module _ (change : ℕ → List ℕ → List ℕ) (j : ℕ) (ids rg ys : List ℕ) where
-  pub id-turn : (rg′ : List ℕ) → eachId change (drop j ids) rg ≡ ys → j < length ids → rg′ ≡ change (getD ids j 0) rg → eachId change (drop (j + 1) ids) rg′ ≡ ys
+  pub id-turn : (rg′ : List ℕ) → eachId change (drop j ids) rg ≡ ys → j < length ids → rg′ ≡ change (getD ids j 0) rg
+      → eachId change (drop (j + 1) ids) rg′ ≡ ys
   unfolding eachId
   id-turn rg′ e l h = rw (h, add-one) (rw (drop-cons ids j 0 l) at e)
 

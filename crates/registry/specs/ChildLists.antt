@@ -105,10 +105,12 @@ module _ (places n : ℕ) (rg : List ℕ) where
           nexts-room = rw length-set (lists .nexts-room);
           firsts-inside =
               rw length-set
-              (at-most-set (length nexts) firsts q (suc k) (lists .firsts-inside) (omega (arith, lists .firsts-room)) (omega (arith, lists .nexts-room)));
+              (at-most-set (length nexts) firsts q (suc k) (lists .firsts-inside) (omega (arith, lists .firsts-room))
+              (omega (arith, lists .nexts-room)));
           nexts-inside =
               rw length-set
-              (at-most-set (length nexts) nexts k (getD firsts q 0) (lists .nexts-inside) (omega (arith, lists .nexts-room)) (lists .firsts-inside .most q));
+              (at-most-set (length nexts) nexts k (getD firsts q 0) (lists .nexts-inside) (omega (arith, lists .nexts-room))
+              (lists .firsts-inside .most q));
           first = λ p u.
               by-cases (ℕ-discrete p q)
               (λ here.
@@ -134,8 +136,10 @@ module _ (places n : ℕ) (rg : List ℕ) where
         later : List ℕ
         later = childPlacesFrom places p (k + 1) m rg
 
-        go : (b : Bool) → childOf (linkAt places rg) p k ≡ b → ((room : ℕ) → length later ≤ room → listFrom nexts room (headOf later) ≡ later)
-            → (room : ℕ) → length (pick b (k ∷ later) later) ≤ room → listFrom nexts room (headOf (pick b (k ∷ later) later)) ≡ pick b (k ∷ later) later
+        go : (b : Bool) → childOf (linkAt places rg) p k ≡ b
+            → ((room : ℕ) → length later ≤ room → listFrom nexts room (headOf later) ≡ later)
+            → (room : ℕ) → length (pick b (k ∷ later) later) ≤ room
+            → listFrom nexts room (headOf (pick b (k ∷ later) later)) ≡ pick b (k ∷ later) later
         go true named rest zero fits = absurd (omega arith)
         go true named rest (suc room) fits =
             let left : n - (k + 1) ≡ m = omega arith in
@@ -144,7 +148,8 @@ module _ (places n : ℕ) (rg : List ℕ) where
             rw follows (ap (λ ks. k ∷ ks) (rest room (omega arith)))
         go false other rest room fits = rest room fits
 
-    pub lists-children : (room : ℕ) → p < n → length (childPlaces places p n rg) ≤ room → listFrom nexts room (getD firsts p 0) ≡ childPlaces places p n rg
+    pub lists-children : (room : ℕ) → p < n → length (childPlaces places p n rg) ≤ room
+        → listFrom nexts room (getD firsts p 0) ≡ childPlaces places p n rg
     unfolding childPlaces
     lists-children room l fits =
         let all : n - 0 ≡ n = omega arith in

@@ -6,7 +6,7 @@ use Prim.Native.Nat.{ℕ, zero, suc, _+_}
 use lib.Dec.{eqb, ltb}
 use Rattle.base.specs.Below.{sum, one}
 use Rattle.base.specs.Choose.{pick}
-use Rattle.registry.specs.Words.{idAt, stateAt, linkAt, listed, childOf}
+use Rattle.registry.specs.Words.{idAt, stateAt, linkAt, hasList, childOf}
 use Rattle.registry.specs.Holders.{placeOf}
 
 -- The children of place p, in list order, among the m places from k on.
@@ -30,7 +30,7 @@ childIds places p n rg = idsAt rg (childPlaces places p n rg)
 
 -- How many ids have a list, and how many children stand in lists.
 unfoldable pub parents : ℕ → ℕ → List ℕ → ℕ
-parents places n rg = sum (λ k. listed (stateAt places rg k)) n
+parents places n rg = sum (λ k. hasList (stateAt places rg k)) n
 
 unfoldable pub edges : ℕ → ℕ → List ℕ → ℕ
 edges places n rg = sum (λ k. one (not (eqb (linkAt places rg k) 0))) n

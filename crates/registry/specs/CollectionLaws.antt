@@ -58,7 +58,8 @@ pub record Collects (places p k n : ℕ) (rg : List ℕ) (c : Collected) : Type 
 
 -- ---- one of them leaves
 
-module _ (places p n k : ℕ) (rg : List ℕ) (inside : k < n) (fit : n ≤ places) (long : 5 * places + 1 ≤ length rg) (gone : unneeded places p n rg k ≡ true) where
+module _ (places p n k : ℕ) (rg : List ℕ) (inside : k < n) (fit : n ≤ places) (long : 5 * places + 1 ≤ length rg)
+    (gone : unneeded places p n rg k ≡ true) where
   abbrev rest : List ℕ
   rest = unregistered places n k rg
 
@@ -129,7 +130,8 @@ module _ (places p n k : ℕ) (rg : List ℕ) (inside : k < n) (fit : n ≤ plac
 
   collects-left : (c : Collected) → Collects places p k (n - 1) rest c → Collects places p (suc k) n rg c
   collects-left c later =
-      let relinked : Linked n (linkAt places rg) → Linked (n - 1) (linkAt places rest) = unregistered-linked places n k rg inside fit long in
+      let relinked : Linked n (linkAt places rg) → Linked (n - 1) (linkAt places rest) =
+      unregistered-linked places n k rg inside fit long in
       record {
         fewer = omega (arith, later .fewer);
         same-length = later .same-length ∙ length-unregistered places n k rg inside fit long;
@@ -220,7 +222,8 @@ module _ (places p n : ℕ) (rg : List ℕ) (inside : p < n) (fit : n ≤ places
   length-collected = whole .same-length
 
   pub collected-keeps :
-      (m next : ℕ) (spaces : ℕ → ℕ) → RegistryRules places n m next spaces rg → RegistryRules places (after .left) m next spaces (after .words)
+      (m next : ℕ) (spaces : ℕ → ℕ) → RegistryRules places n m next spaces rg
+      → RegistryRules places (after .left) m next spaces (after .words)
   collected-keeps = whole .keeps
 
   module _ (linked : Linked n (linkAt places rg)) where
@@ -239,7 +242,8 @@ module _ (places p n : ℕ) (rg : List ℕ) (inside : p < n) (fit : n ≤ places
     -- The ids left are those whose places were needed before the collection.
     pub collected-exactly :
         Differ n (idAt rg) → (x : ℕ)
-        → (placeOf (after .left) (after .words) x < after .left) ↔ ((placeOf n rg x < n) × (unneeded places p n rg (placeOf n rg x) ≡ false))
+        → (placeOf (after .left) (after .words) x < after .left)
+        ↔ ((placeOf n rg x < n) × (unneeded places p n rg (placeOf n rg x) ≡ false))
     collected-exactly differ x =
         Iff·trans (registered-among (after .left) (after .words) x)
         (Iff·trans (whole .exactly linked x) (

@@ -16,7 +16,7 @@ use Rattle.base.specs.AllLaws.{all-make, all-broken}
 use Rattle.base.specs.SumLaws.{sum-zero, sum-more, sum-grows, one-le}
 use Rattle.base.specs.Distinct.{allDifferent}
 use Rattle.base.specs.Exactly.{same-test}
-use Rattle.base.specs.Listed.{fold, fold-ext}
+use Rattle.base.specs.Compacted.{fold, fold-ext}
 use Rattle.base.specs.Place.{placeOf, place-holds, place-is}
 use Rattle.base.specs.declared.distinct.Place.{Place}
 use Rattle.base.specs.declared.distinct.Place.the-variants.{At, Nowhere}
@@ -101,7 +101,8 @@ module _ (link : ℕ → ℕ) (k : ℕ) (counts : List ℕ) (counted : Counted l
         ) in
         all-broken p n (λ p. leb (children link n p) 1024) (omega arith) (lt-leb (children link n p) 1024 long)
 
-pub counted-done : (link : ℕ → ℕ) (k n : ℕ) (counts : List ℕ) → Counted link k counts → k ≤ n → n ≤ k → n ≤ length counts → true ≡ shortTest n link
+pub counted-done : (link : ℕ → ℕ) (k n : ℕ) (counts : List ℕ) → Counted link k counts → k ≤ n → n ≤ k → n ≤ length counts
+    → true ≡ shortTest n link
 counted-done link k n counts counted l u long =
     let all-counted : k ≡ n = le-antisymm l u in
     sym
@@ -121,7 +122,8 @@ unfoldable pub countEntry : List ℕ → ℕ → List ℕ → List ℕ
 countEntry ids id counts = atPlace (placeOf ids id) counts
 
 -- Where ids differ, the count of each place goes up exactly when the entry has its id.
-pub entry-counted : (ids : List ℕ) (id : ℕ) (counts : List ℕ) (k : ℕ) → allDifferent ids ≡ true → length ids ≤ length counts → k < length ids
+pub entry-counted : (ids : List ℕ) (id : ℕ) (counts : List ℕ) (k : ℕ) → allDifferent ids ≡ true → length ids ≤ length counts
+    → k < length ids
     → getD (countEntry ids id counts) k 0 ≡ getD counts k 0 + one (eqb (getD ids k 0) id)
 unfolding countEntry
 entry-counted ids id counts k different long inside = go (placeOf ids id) refl
@@ -179,13 +181,21 @@ pub entries-ext :
     → countEntries ids xs n counts ≡ countEntries ids ys n counts
 unfolding countEntries
 entries-ext ids xs ys n counts e =
-    fold-ext (λ j. countEntry ids (getD xs j 0)) (λ j. countEntry ids (getD ys j 0)) n counts (λ k l b. ap (λ id. countEntry ids id b) (e k l))
+    fold-ext (λ j. countEntry ids (getD xs j 0)) (λ j. countEntry ids (getD ys j 0)) n counts
+    (λ k l b. ap (λ id. countEntry ids id b) (e k l))
 
-pub few-entries : (e : ℕ) (ids entries : List ℕ) (n : ℕ) (counts : List ℕ) → AtMost e counts → AtMost (e + n) (countEntries ids entries n counts)
+pub few-entries : (e : ℕ) (ids entries : List ℕ) (n : ℕ) (counts : List ℕ) → AtMost e counts
+    → AtMost (e + n) (countEntries ids entries n counts)
 unfolding countEntries fold
 few-entries e ids entries zero counts few = record { most = λ k. omega (arith, few .most k) }
 few-entries e ids entries (suc n) counts few =
-    record { most = λ k. omega (arith, at-most-more (e + n) ids (getD entries n 0) (countEntries ids entries n counts) (few-entries e ids entries n counts few) .most k) }
+    record {
+      most = λ k. omega (
+        arith,
+        at-most-more (e + n) ids (getD entries n 0) (countEntries ids entries n counts)
+            (few-entries e ids entries n counts few) .most k,
+      );
+    }
 
 pub length-entries : (ids entries : List ℕ) (n : ℕ) (counts : List ℕ) → length (countEntries ids entries n counts) ≡ length counts
 unfolding countEntries fold

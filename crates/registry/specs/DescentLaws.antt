@@ -119,7 +119,8 @@ module _ (n : ℕ) (link : ℕ → ℕ) (r at : ℕ) (found : List ℕ) (descend
           sisters-once j l a (omega arith) (sym (append-right found ks a) ∙ ap (λ x. getD (found ++ ks) x 0) place ∙ e)));
       closed = λ i l k u e.
           by-cases (ℕ-discrete i at)
-          (λ here. in-right found ks k (sisters .whole k (omega arith) (omega arith) (e ∙ ap suc (ap (λ x. getD (found ++ ks) x 0) here ∙ was at more))))
+          (λ here. in-right found ks k (sisters .whole k (omega arith) (omega arith)
+          (e ∙ ap suc (ap (λ x. getD (found ++ ks) x 0) here ∙ was at more))))
           (λ other. in-left found ks k (descending .closed i (omega arith) k u (e ∙ ap suc (was i (omega arith)))));
     }
 

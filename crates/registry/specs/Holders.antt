@@ -1,5 +1,5 @@
 -- Document 01, "Holders": plus one per accepted entry of a registered id, minus one per entry leaving, never under 0. n ids are
--- registered, in a registry of so many places; an id that is not registered has no holders to count.
+-- registered, in a registry of `places` places; an id that is not registered has no holders to count.
 use mathlib.Core.List.{List, [], _∷_}
 use Prim.Native.Nat.{ℕ, _+_, _-_, _*_, _%_, _^_}
 use lib.Dec.{eqb, ltb}

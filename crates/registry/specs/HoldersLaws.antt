@@ -145,7 +145,8 @@ module _ (places n : ℕ) (fit : n ≤ places) where
   released-all-only = each-only places (released places n) (λ id rg long. released-only places n rg fit long id)
 
   module _ (k : ℕ) (l : k < n) where
-    pub held-all-holders : (ids rg : List ℕ) → 5 * places + 1 ≤ length rg → Differ n (idAt rg) → holders (stateAt places rg k) + length ids < 2 ^ 62
+    pub held-all-holders : (ids rg : List ℕ) → 5 * places + 1 ≤ length rg → Differ n (idAt rg)
+        → holders (stateAt places rg k) + length ids < 2 ^ 62
         → holders (stateAt places (heldAll places n ids rg) k) ≡ holders (stateAt places rg k) + count (idAt rg k) ids
     unfolding eachId count
     held-all-holders [] rg long differ room = omega arith

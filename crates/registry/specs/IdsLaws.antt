@@ -13,7 +13,7 @@ use lib.Seq.{getD-set-same, getD-set-other}
 use Rattle.base.specs.Distinct.{Among}
 use Rattle.base.specs.FirstLaws.{first-le, first-passes, first-before}
 use Rattle.base.specs.Shift.{shiftedUp, length-shiftedDown, shiftedDown-before, shiftedDown-in, length-shiftedUp, shiftedUp-before, shiftedUp-in}
-use Rattle.registry.specs.Words.{idAt, recycledAt, revoked, listed}
+use Rattle.registry.specs.Words.{idAt, recycledAt, revoked, hasList}
 use Rattle.registry.specs.Sound.{Ascend}
 use Rattle.registry.specs.Ids.{firstTaken, joinPlace, recycledWith}
 use Rattle.registry.specs.Rules.{RegisteredRules, RecycledRules, RegistryRules, registered-same}
@@ -27,7 +27,7 @@ columns-registered places n next rg rg′ fit columns =
     registered-same places n next rg rg′
     (λ k l. columns k (omega arith))
     (λ k l. columns (3 * places + k) (omega arith))
-    (λ k l. ap listed (columns (2 * places + k) (omega arith)))
+    (λ k l. ap hasList (columns (2 * places + k) (omega arith)))
     (λ k l. ap revoked (columns (2 * places + k) (omega arith)))
 
 -- ---- taking the smallest
@@ -133,7 +133,8 @@ module _ (places m id : ℕ) (rg : List ℕ) (room : m ≤ places) (long : 5 * p
 
   pub recycled-with-has : (x : ℕ) → Among (m + 1) (recycledAt places joined) x ↔ ((x ≡ id) ⊎ Among m recycled x)
   recycled-with-has x =
-      let split = among-without place m (m + 1) refl (omega (arith, place-inside)) (recycledAt places joined) recycled recycled-with-others x in (
+      let split = among-without place m (m + 1) refl (omega (arith, place-inside))
+      (recycledAt places joined) recycled recycled-with-others x in (
         λ among. ⊎-elim (λ e. inl (sym e ∙ recycled-with-new)) inr (split .0 among),
         λ either. split .1 (⊎-elim (λ e. inl (recycled-with-new ∙ sym e)) inr either),
       )

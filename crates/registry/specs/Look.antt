@@ -11,19 +11,19 @@ use Rattle.base.specs.Choose.{both}
 use Rattle.base.specs.Distinct.{differTest}
 use Rattle.base.specs.Exactly.{both-exactly, same-test, tests}
 use Rattle.registry.specs.Words.{idAt, stateAt, linkAt, recycledAt}
-use Rattle.registry.specs.Sound.{issuedAt, issuedTest, ascendTest, unregisteredId, unregisteredTest, linkedAt, linkedTest, listedAt, listedTest, shortTest, cascadedAt, cascadedTest, registryTest}
+use Rattle.registry.specs.Sound.{issuedAt, issuedTest, ascendTest, unregisteredId, unregisteredTest, linkedAt, linkedTest, parentHasListAt, parentHasListTest, shortTest, cascadedAt, cascadedTest, registryTest}
 
 -- The rules of place k.
 unfoldable pub placeTest : ℕ → ℕ → List ℕ → ℕ → Bool
 placeTest places next rg k =
     both (issuedAt next (idAt rg) k)
     (both (linkedAt (linkAt places rg) k)
-    (both (listedAt (linkAt places rg) (stateAt places rg) k) (cascadedAt (linkAt places rg) (stateAt places rg) k)))
+    (both (parentHasListAt (linkAt places rg) (stateAt places rg) k) (cascadedAt (linkAt places rg) (stateAt places rg) k)))
 
 pub places-passed : (places n next : ℕ) (rg : List ℕ) → all n (placeTest places next rg)
     ≡ both (issuedTest n (idAt rg) next)
     (both (linkedTest n (linkAt places rg))
-    (both (listedTest n (linkAt places rg) (stateAt places rg)) (cascadedTest n (linkAt places rg) (stateAt places rg))))
+    (both (parentHasListTest n (linkAt places rg) (stateAt places rg)) (cascadedTest n (linkAt places rg) (stateAt places rg))))
 unfolding placeTest
 places-passed places n next rg = simp all-both
 
@@ -71,8 +71,8 @@ registry-passed places n m next rg =
     rw (places-passed, recycled-passed)
     (same-test _ _
     (simp both-exactly (
-      λ (differ, (issued, (ascend, (unregistered, (recycled, (linked, (listed, (short, cascaded)))))))).
-          (differ, (((issued, (linked, (listed, cascaded))), short), (ascend, (unregistered, recycled)))),
-      λ (differ, (((issued, (linked, (listed, cascaded))), short), (ascend, (unregistered, recycled)))).
-          (differ, (issued, (ascend, (unregistered, (recycled, (linked, (listed, (short, cascaded)))))))),
+      λ (differ, (issued, (ascend, (unregistered, (recycled, (linked, (hasList, (short, cascaded)))))))).
+          (differ, (((issued, (linked, (hasList, cascaded))), short), (ascend, (unregistered, recycled)))),
+      λ (differ, (((issued, (linked, (hasList, cascaded))), short), (ascend, (unregistered, recycled)))).
+          (differ, (issued, (ascend, (unregistered, (recycled, (linked, (hasList, (short, cascaded)))))))),
     )))

@@ -14,9 +14,9 @@ use lib.Seq.{set-getD}
 use Rattle.base.specs.Choose.{pick}
 use Rattle.base.specs.Members.{In, in-cons}
 use Rattle.base.specs.Sifted.{sifted, sifted-exactly}
-use Rattle.registry.specs.Words.{stateAt, linkAt, revoked, listed, holders}
+use Rattle.registry.specs.Words.{stateAt, linkAt, revoked, hasList, holders}
 use Rattle.registry.specs.Sound.{Linked}
-use Rattle.registry.specs.Rules.{RegisteredRules, RegistryRules, Same, listed-same}
+use Rattle.registry.specs.Rules.{RegisteredRules, RegistryRules, Same, has-list-same}
 use Rattle.registry.specs.StatesOnly.{StatesOnly, ByAt, by-keeps, states-only-none, states-only-one, states-only-then, same-ids, same-links, states-only-registered, states-only-recycled}
 use Rattle.registry.specs.PlaceLists.{AllBelow, all-below-more, all-below-first, all-below-later}
 use Rattle.registry.specs.Descent.{descent, unrevokedOf, markedState, marked}
@@ -35,7 +35,7 @@ module _ (state : ℕ) where
   marked-revoked : revoked (markedState state) ≡ 1
   marked-revoked = omega (arith, marked-state)
 
-  marked-rest : (listed (markedState state) ≡ listed state) × (holders (markedState state) ≡ holders state)
+  marked-rest : (hasList (markedState state) ≡ hasList state) × (holders (markedState state) ≡ holders state)
   marked-rest = omega (arith, marked-state)
 
   marked-again : revoked state ≡ 1 → markedState state ≡ state
@@ -64,7 +64,8 @@ marked-both k ks j s s′ s″ one rest =
     marked-same : ByAt markedState (λ j. j ≡ k) j s s′ → markedState s′ ≡ markedState s
     marked-same = by-keeps markedState markedState (λ s. marked-again (markedState s) (marked-revoked s)) (λ j. j ≡ k) j s s′
 
-pub marked-only : (places : ℕ) (ks rg : List ℕ) → AllBelow places ks → 5 * places + 1 ≤ length rg → OnlyMarked places ks rg (marked places ks rg)
+pub marked-only : (places : ℕ) (ks rg : List ℕ) → AllBelow places ks → 5 * places + 1 ≤ length rg
+    → OnlyMarked places ks rg (marked places ks rg)
 unfolding marked
 marked-only places [] rg inside long = states-only-none places (ByAt markedState (In [])) (λ k s. inr (λ (j, (l, e)). omega arith, refl)) rg
 marked-only places (k ∷ ks) rg inside long =
@@ -77,8 +78,8 @@ module _ (places : ℕ) (ks rg rg′ : List ℕ) (only : OnlyMarked places ks rg
   pub only-marked-elsewhere : ¬ In ks k → stateAt places rg′ k ≡ stateAt places rg k
   only-marked-elsewhere none′ = ⊎-elim (λ (found, e). absurd (none′ found)) (λ (_, e). e) (only .states k)
 
-  pub only-marked-listed : listed (stateAt places rg′ k) ≡ listed (stateAt places rg k)
-  only-marked-listed = by-keeps listed markedState (λ s. marked-rest s .0) (In ks) k _ _ (only .states k)
+  pub only-marked-has-list : hasList (stateAt places rg′ k) ≡ hasList (stateAt places rg k)
+  only-marked-has-list = by-keeps hasList markedState (λ s. marked-rest s .0) (In ks) k _ _ (only .states k)
 
   pub only-marked-holders : holders (stateAt places rg′ k) ≡ holders (stateAt places rg k)
   only-marked-holders = by-keeps holders markedState (λ s. marked-rest s .1) (In ks) k _ _ (only .states k)
@@ -135,7 +136,8 @@ marked-later places rg₀ (k ∷ ks) rg later inside long =
     left : List ℕ
     left = unrevokedOf places rg₀ ks
 
-    go : (b : Bool) → eqb (revoked (stateAt places rg₀ k)) 0 ≡ b → marked places left rg ≡ marked places ks rg → marked places left rg₁ ≡ marked places ks rg₁
+    go : (b : Bool) → eqb (revoked (stateAt places rg₀ k)) 0 ≡ b → marked places left rg ≡ marked places ks rg
+        → marked places left rg₁ ≡ marked places ks rg₁
         → marked places (pick b (k ∷ left) left) rg ≡ marked places ks rg₁
     go true e as-it-is once-marked = once-marked
     go false e as-it-is once-marked =
@@ -173,18 +175,21 @@ module _ (places n : ℕ) (rg : List ℕ) (r : ℕ) (inside : r < n) (fit : n �
         )
 
     -- Every word but the states of the places under r is as it was.
-    pub descent-marked-others : (i : ℕ) → ((k : ℕ) → k < n → Under (linkAt places rg) r k → i ≢ 2 * places + k) → getD gone i 0 ≡ getD rg i 0
+    pub descent-marked-others : (i : ℕ) → ((k : ℕ) → k < n → Under (linkAt places rg) r k → i ≢ 2 * places + k)
+        → getD gone i 0 ≡ getD rg i 0
     descent-marked-others i other =
         by-cases (decLt i (2 * places))
         (λ low. descent-marked-only .before i low)
         (λ from.
         let k : ℕ = i - 2 * places in
         let place : 2 * places + k ≡ i = omega arith in
-        let unmarked : ¬ In ks k = λ found. let (l, under) = descent-exactly places n rg r linked inside k .0 found in other k l under (sym place) in
+        let unmarked : ¬ In ks k = λ found. let (l, under) =
+        descent-exactly places n rg r linked inside k .0 found in other k l under (sym place) in
         rw place at (only-marked-elsewhere places ks rg gone descent-marked-only k unmarked))
 
   -- The children of what is under r are under r, so the rules hold on.
-  pub descent-marked-keeps : (m next : ℕ) (spaces : ℕ → ℕ) → RegistryRules places n m next spaces rg → RegistryRules places n m next spaces gone
+  pub descent-marked-keeps : (m next : ℕ) (spaces : ℕ → ℕ) → RegistryRules places n m next spaces rg
+      → RegistryRules places n m next spaces gone
   descent-marked-keeps m next spaces rules =
       let old : RegisteredRules places n next rg = rules .registered in
       let link : ℕ → ℕ = linkAt places rg in
@@ -195,8 +200,8 @@ module _ (places n : ℕ) (rg : List ℕ) (r : ℕ) (inside : r < n) (fit : n �
       record {
         registered =
             states-only-registered places rg gone only n fit next
-            (listed-same n link link′ links (stateAt places rg) (stateAt places gone) (old .linked)
-            (λ k l. only-marked-listed places ks rg gone only k) (old .has-list))
+            (has-list-same n link link′ links (stateAt places rg) (stateAt places gone) (old .linked)
+            (λ k l. only-marked-has-list places ks rg gone only k) (old .has-list))
             (λ k l p e h.
             let child : link k ≡ suc p = sym (links k l) ∙ e in
             revokes k .1

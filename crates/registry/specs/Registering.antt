@@ -1,6 +1,6 @@
--- Document 01, "Registry and delegation": registering an id, unregistering it, and the children that go by it. n ids are registered, in
--- the order of their registration, in a registry of so many places; a child's link names its parent's place, so a child is recorded
--- when it is registered and leaves its parent's list when it is unregistered.
+-- Document 01, "Registry and delegation": registering an id, unregistering it, and the collection of children that nothing needs. n ids are
+-- registered, in the order of their registration, in a registry of `places` places; a child's link names its parent's place, so a child is
+-- recorded when it is registered and leaves its parent's list when it is unregistered.
 use mathlib.Core.Bool.{Bool, not}
 use mathlib.Core.List.{List}
 use Prim.Native.Nat.{ℕ, zero, suc, _+_, _-_, _*_}
@@ -9,7 +9,7 @@ use lib.ListN.{getD, set}
 use Rattle.base.specs.Below.{first}
 use Rattle.base.specs.Choose.{pick, both}
 use Rattle.base.specs.Shift.{shiftedDown}
-use Rattle.registry.specs.Words.{stateAt, linkAt, listed, holders, childOf}
+use Rattle.registry.specs.Words.{stateAt, linkAt, hasList, holders, childOf}
 
 -- A new id stands behind the others, unrevoked, with no list and no holders.
 unfoldable pub registered : ℕ → ℕ → ℕ → ℕ → ℕ → List ℕ → List ℕ
@@ -18,7 +18,7 @@ registered places n id object link rg =
 
 -- Place p has a list of children from now on.
 abbrev pub withList : ℕ → ℕ
-withList state = pick (eqb (listed state) 1) state (state + 2)
+withList state = pick (eqb (hasList state) 1) state (state + 2)
 
 unfoldable pub listGiven : ℕ → ℕ → List ℕ → List ℕ
 listGiven places p rg = set rg (2 * places + p) (withList (stateAt places rg p))

@@ -1,4 +1,5 @@
--- Laws of registering an id and of giving a place a list of children: what stands where afterwards, and that the rules of a registry hold on.
+-- Laws of registering an id and of giving a place a list of children: what stands where afterwards, and that the rules of a registry hold
+-- on.
 use mathlib.Core.Path.{_≡_, refl, sym, ap, _∙_}
 use mathlib.Core.Logic.{_≢_, _↔_, _⊎_, inl, inr, ⊎-elim, by-cases}
 use mathlib.Core.List.{List}
@@ -14,7 +15,7 @@ use Rattle.base.specs.Below.{one}
 use Rattle.base.specs.Distinct.{Differ, Among}
 use Rattle.base.specs.FirstLaws.{first-le-of}
 use Rattle.base.specs.SumLaws.{sum-const-zero}
-use Rattle.registry.specs.Words.{idAt, objectAt, stateAt, linkAt, recycledAt, revoked, listed, holders, childOf, children}
+use Rattle.registry.specs.Words.{idAt, objectAt, stateAt, linkAt, recycledAt, revoked, hasList, holders, childOf, children}
 use Rattle.registry.specs.Sound.{Linked, Short}
 use Rattle.registry.specs.Counts.{children-more}
 use Rattle.registry.specs.Holders.{placeOf}
@@ -37,7 +38,8 @@ same-places-refl places n rg =
 
 -- One change after the other keeps the places that both keep.
 pub same-places-trans :
-    (places n n′ : ℕ) (rg rg′ rg″ : List ℕ) → n ≤ n′ → SamePlaces places n′ rg rg′ → SamePlaces places n rg′ rg″ → SamePlaces places n rg rg″
+    (places n n′ : ℕ) (rg rg′ rg″ : List ℕ) → n ≤ n′ → SamePlaces places n′ rg rg′ → SamePlaces places n rg′ rg″
+    → SamePlaces places n rg rg″
 same-places-trans places n n′ rg rg′ rg″ fewer h g = record {
   ids = λ k l. g .ids k l ∙ h .ids k (omega arith);
   objects = λ k l. g .objects k l ∙ h .objects k (omega arith);
@@ -66,7 +68,7 @@ pub record NewPlace (places n id object link : ℕ) (rg : List ℕ) : Type 0 whe
 -- What the parent is that a new id's link names: registered, with a list that has room, and unrevoked. A link of 0 names none.
 pub record Parent (places n link : ℕ) (rg : List ℕ) : Type 0 where
   pub earlier : link ≤ n
-  pub has-list : (p : ℕ) → link ≡ suc p → listed (stateAt places rg p) ≡ 1
+  pub has-list : (p : ℕ) → link ≡ suc p → hasList (stateAt places rg p) ≡ 1
   pub room : (p : ℕ) → link ≡ suc p → children (linkAt places rg) n p < 1024
   pub unrevoked : (p : ℕ) → link ≡ suc p → revoked (stateAt places rg p) ≡ 0
 
@@ -117,9 +119,11 @@ module _ (places n id object link : ℕ) (rg : List ℕ) (fit : n < places) (lon
       record {
         new-id = rw (getD-set-other, getD-set-other, getD-set-other) (getD-set-same rg n id 0 (omega arith));
         new-object = rw (getD-set-other, getD-set-other) (getD-set-same (set rg n id) (places + n) object 0 (rw length-set (omega arith)));
-        new-state = rw getD-set-other (getD-set-same (set (set rg n id) (places + n) object) (2 * places + n) 0 0 (simp length-set (omega arith)));
+        new-state = rw getD-set-other (getD-set-same (set (set rg n id) (places + n) object) (2 * places + n) 0 0
+            (simp length-set (omega arith)));
         new-link =
-            getD-set-same (set (set (set rg n id) (places + n) object) (2 * places + n) 0) (3 * places + n) link 0 (simp length-set (omega arith));
+            getD-set-same (set (set (set rg n id) (places + n) object) (2 * places + n) 0) (3 * places + n) link 0
+            (simp length-set (omega arith));
       }
 
   -- A child of the new registry is one of the old, or the new place.
@@ -129,7 +133,8 @@ module _ (places n id object link : ℕ) (rg : List ℕ) (fit : n < places) (lon
       (λ u. inl (u, sym (registered-other .links k u) ∙ e))
       (λ last. let here : k ≡ n = omega arith in inr (here, sym (registered-new .new-link) ∙ ap (linkAt places new) (sym here) ∙ e))
 
-  module _ (next : ℕ) (old : RegisteredRules places n next rg) (fresh : (k : ℕ) → k < n → idAt rg k ≢ id) (parent : Parent places n link rg) where
+  module _ (next : ℕ) (old : RegisteredRules places n next rg) (fresh : (k : ℕ) → k < n → idAt rg k ≢ id)
+      (parent : Parent places n link rg) where
     -- Old or new, a child's parent has an old place, and so its old state.
     parent-state : (k p : ℕ) → k < n + 1 → linkAt places new k ≡ suc p → stateAt places new p ≡ stateAt places rg p
     parent-state k p l e =
@@ -147,7 +152,8 @@ module _ (places n id object link : ℕ) (rg : List ℕ) (fit : n < places) (lon
     short-more p l =
         let count : children (linkAt places new) (n + 1) p ≡ children (linkAt places rg) n p + one (eqb link (suc p)) =
         children-more (linkAt places new) n p
-        ∙ ap (λ c. c + one (childOf (linkAt places new) p n)) (children-same n (linkAt places rg) (linkAt places new) (registered-other .links) p)
+        ∙ ap (λ c. c + one (childOf (linkAt places new) p n))
+        (children-same n (linkAt places rg) (linkAt places new) (registered-other .links) p)
         ∙ ap (λ v. children (linkAt places rg) n p + one (eqb v (suc p))) (registered-new .new-link) in
         by-cases (ℕ-discrete link (suc p))
         (λ child. omega (arith, count, parent .room p child, ap one (eq-eqb link (suc p) child)))
@@ -206,21 +212,21 @@ module _ (places n id object link : ℕ) (rg : List ℕ) (fit : n < places) (lon
 pub record OnlyListed (places p : ℕ) (rg rg′ : List ℕ) : Type 0 where
   pub revoked-stays : (k : ℕ) → revoked (stateAt places rg′ k) ≡ revoked (stateAt places rg k)
   pub holders-stay : (k : ℕ) → holders (stateAt places rg′ k) ≡ holders (stateAt places rg k)
-  pub listed-here : listed (stateAt places rg′ p) ≡ 1
-  pub listed-stays : (k : ℕ) → k ≢ p → listed (stateAt places rg′ k) ≡ listed (stateAt places rg k)
+  pub has-list-here : hasList (stateAt places rg′ p) ≡ 1
+  pub has-list-stays : (k : ℕ) → k ≢ p → hasList (stateAt places rg′ k) ≡ hasList (stateAt places rg k)
 
 module _ (state : ℕ) where
-  with-list-flag : listed (withList state) ≡ 1
+  with-list-flag : hasList (withList state) ≡ 1
   with-list-flag =
-      by-cases (ℕ-discrete (listed state) 1)
-      (λ has. rw (eq-eqb (listed state) 1 has) has)
-      (λ none′. rw (ne-eqb (listed state) 1 none′) (omega arith))
+      by-cases (ℕ-discrete (hasList state) 1)
+      (λ has. rw (eq-eqb (hasList state) 1 has) has)
+      (λ none′. rw (ne-eqb (hasList state) 1 none′) (omega arith))
 
   with-list-rest : (revoked (withList state) ≡ revoked state) × (holders (withList state) ≡ holders state)
   with-list-rest =
-      by-cases (ℕ-discrete (listed state) 1)
-      (λ has. rw (eq-eqb (listed state) 1 has) (refl, refl))
-      (λ none′. rw (ne-eqb (listed state) 1 none′) (omega arith))
+      by-cases (ℕ-discrete (hasList state) 1)
+      (λ has. rw (eq-eqb (hasList state) 1 has) (refl, refl))
+      (λ none′. rw (ne-eqb (hasList state) 1 none′) (omega arith))
 
 module _ (places p : ℕ) (rg : List ℕ) (fit : p < places) (long : 5 * places + 1 ≤ length rg) where
   abbrev given : List ℕ
@@ -234,12 +240,12 @@ module _ (places p : ℕ) (rg : List ℕ) (fit : p < places) (long : 5 * places 
   list-given-state = record {
     revoked-stays = λ k. by-keeps revoked withList (λ s. with-list-rest s .0) (λ k. k ≡ p) k _ _ (list-given-only .states k);
     holders-stay = λ k. by-keeps holders withList (λ s. with-list-rest s .1) (λ k. k ≡ p) k _ _ (list-given-only .states k);
-    listed-here =
+    has-list-here =
         ⊎-elim
-        (λ (_, e). ap listed e ∙ with-list-flag (stateAt places rg p))
+        (λ (_, e). ap hasList e ∙ with-list-flag (stateAt places rg p))
         (λ (other, _). absurd (other refl))
         (list-given-only .states p);
-    listed-stays = λ k other. ⊎-elim (λ (here, _). absurd (other here)) (λ (_, e). ap listed e) (list-given-only .states k);
+    has-list-stays = λ k other. ⊎-elim (λ (here, _). absurd (other here)) (λ (_, e). ap hasList e) (list-given-only .states k);
   }
 
   pub list-given-keeps :
@@ -254,8 +260,8 @@ module _ (places p : ℕ) (rg : List ℕ) (fit : p < places) (long : 5 * places 
             states-only-registered places rg given list-given-only n registered-fit next
             (λ k l q e.
             by-cases (ℕ-discrete q p)
-            (λ here. rw here (list-given-state .listed-here))
-            (λ other. list-given-state .listed-stays q other ∙ old .has-list k l q (sym (links k l) ∙ e)))
+            (λ here. rw here (list-given-state .has-list-here))
+            (λ other. list-given-state .has-list-stays q other ∙ old .has-list k l q (sym (links k l) ∙ e)))
             (cascaded-same n link link′ links (stateAt places rg) (stateAt places given) (old .linked)
             (λ k l. list-given-state .revoked-stays k) (old .cascaded))
             old;

@@ -7,15 +7,15 @@ use lib.Dec.{eqb}
 use Rattle.base.specs.Below.{one}
 use Rattle.base.specs.SumLaws.{sum-ext}
 use Rattle.base.specs.Distinct.{Differ}
-use Rattle.registry.specs.Words.{idAt, stateAt, linkAt, recycledAt, revoked, listed, childOf, children}
-use Rattle.registry.specs.Sound.{Issued, Ascend, Unregistered, Linked, Listed, Short, Cascaded, Held}
+use Rattle.registry.specs.Words.{idAt, stateAt, linkAt, recycledAt, revoked, hasList, childOf, children}
+use Rattle.registry.specs.Sound.{Issued, Ascend, Unregistered, Linked, ParentHasList, Short, Cascaded, Held}
 
 -- Of the n registered ids.
 pub record RegisteredRules (places n next : ℕ) (rg : List ℕ) : Type 0 where
   pub differ : Differ n (idAt rg)
   pub issued : Issued n (idAt rg) next
   pub linked : Linked n (linkAt places rg)
-  pub has-list : Listed n (linkAt places rg) (stateAt places rg)
+  pub has-list : ParentHasList n (linkAt places rg) (stateAt places rg)
   pub short : Short n (linkAt places rg)
   pub cascaded : Cascaded n (linkAt places rg) (stateAt places rg)
 
@@ -67,8 +67,9 @@ module _ (n : ℕ) (link link′ : ℕ → ℕ) (same : Same n link link′) whe
     parent-below : (k p : ℕ) → k < n → link k ≡ suc p → p < n
     parent-below k p l e = omega (arith, linked k l)
 
-    pub listed-same : Same n (λ k. listed (state k)) (λ k. listed (state′ k)) → Listed n link state → Listed n link′ state′
-    listed-same flag has k l p e =
+    pub has-list-same : Same n (λ k. hasList (state k)) (λ k. hasList (state′ k)) → ParentHasList n link state
+        → ParentHasList n link′ state′
+    has-list-same flag has k l p e =
         let child : link k ≡ suc p = sym (same k l) ∙ e in
         flag p (parent-below k p l child) ∙ has k l p child
 
@@ -93,7 +94,7 @@ module _ (places n next : ℕ) (rg rg′ : List ℕ) (ids : Same n (idAt rg) (id
   -- With ids and links the same, only what is said of states is left to show.
   pub registered-links :
       Same n (linkAt places rg) (linkAt places rg′)
-      → Listed n (linkAt places rg′) (stateAt places rg′) → Cascaded n (linkAt places rg′) (stateAt places rg′)
+      → ParentHasList n (linkAt places rg′) (stateAt places rg′) → Cascaded n (linkAt places rg′) (stateAt places rg′)
       → RegisteredRules places n next rg → RegisteredRules places n next rg′
   registered-links links has-list cascaded rules = record {
     differ = differ-same n (idAt rg) (idAt rg′) ids (rules .differ);
@@ -106,12 +107,12 @@ module _ (places n next : ℕ) (rg rg′ : List ℕ) (ids : Same n (idAt rg) (id
 
   pub registered-same :
       Same n (linkAt places rg) (linkAt places rg′)
-      → Same n (λ k. listed (stateAt places rg k)) (λ k. listed (stateAt places rg′ k))
+      → Same n (λ k. hasList (stateAt places rg k)) (λ k. hasList (stateAt places rg′ k))
       → Same n (λ k. revoked (stateAt places rg k)) (λ k. revoked (stateAt places rg′ k))
       → RegisteredRules places n next rg → RegisteredRules places n next rg′
   registered-same links lists flags rules =
       registered-links links
-      (listed-same n link link′ links state state′ (rules .linked) lists (rules .has-list))
+      (has-list-same n link link′ links state state′ (rules .linked) lists (rules .has-list))
       (cascaded-same n link link′ links state state′ (rules .linked) flags (rules .cascaded)) rules
 
   pub recycled-same :

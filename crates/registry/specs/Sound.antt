@@ -9,7 +9,7 @@ use lib.Dec.{leb, ltb, eqb}
 use Rattle.base.specs.Below.{all}
 use Rattle.base.specs.Choose.{pick, both}
 use Rattle.base.specs.Distinct.{differTest}
-use Rattle.registry.specs.Words.{idAt, stateAt, linkAt, recycledAt, revoked, listed, holders, children}
+use Rattle.registry.specs.Words.{idAt, stateAt, linkAt, recycledAt, revoked, hasList, holders, children}
 
 -- Ids lie in 1..next-1 (registered and recycled ones).
 abbrev pub Issued : ℕ → (ℕ → ℕ) → ℕ → Type 0
@@ -50,14 +50,14 @@ abbrev pub linkedTest : ℕ → (ℕ → ℕ) → Bool
 linkedTest n link = all n (linkedAt link)
 
 -- A child stands once in one list: it has one link, and the place that it names has a list.
-abbrev pub Listed : ℕ → (ℕ → ℕ) → (ℕ → ℕ) → Type 0
-Listed n link state = (k : ℕ) → k < n → (p : ℕ) → link k ≡ suc p → listed (state p) ≡ 1
+abbrev pub ParentHasList : ℕ → (ℕ → ℕ) → (ℕ → ℕ) → Type 0
+ParentHasList n link state = (k : ℕ) → k < n → (p : ℕ) → link k ≡ suc p → hasList (state p) ≡ 1
 
-abbrev pub listedAt : (ℕ → ℕ) → (ℕ → ℕ) → ℕ → Bool
-listedAt link state k = pick (eqb (link k) 0) true (eqb (listed (state (pred (link k)))) 1)
+abbrev pub parentHasListAt : (ℕ → ℕ) → (ℕ → ℕ) → ℕ → Bool
+parentHasListAt link state k = pick (eqb (link k) 0) true (eqb (hasList (state (pred (link k)))) 1)
 
-abbrev pub listedTest : ℕ → (ℕ → ℕ) → (ℕ → ℕ) → Bool
-listedTest n link state = all n (listedAt link state)
+abbrev pub parentHasListTest : ℕ → (ℕ → ℕ) → (ℕ → ℕ) → Bool
+parentHasListTest n link state = all n (parentHasListAt link state)
 
 -- Lists hold at most 1,024.
 abbrev pub Short : ℕ → (ℕ → ℕ) → Type 0
@@ -96,5 +96,5 @@ registryTest places n m next rg =
     (both (unregisteredTest m (recycledAt places rg) n (idAt rg))
     (both (issuedTest m (recycledAt places rg) next)
     (both (linkedTest n (linkAt places rg))
-    (both (listedTest n (linkAt places rg) (stateAt places rg))
+    (both (parentHasListTest n (linkAt places rg) (stateAt places rg))
     (both (shortTest n (linkAt places rg)) (cascadedTest n (linkAt places rg) (stateAt places rg)))))))))

@@ -8,8 +8,8 @@ use native.Mathlib.Omega.{arith}
 use lib.Dec.{eqb, leb}
 use Rattle.base.specs.Choose.{pick}
 use Rattle.base.specs.Exactly.{some-exactly, eqb-exactly, leb-exactly, all-exactly, tests}
-use Rattle.registry.specs.Words.{revoked, listed}
-use Rattle.registry.specs.Sound.{Issued, issuedTest, Ascend, ascendTest, Unregistered, unregisteredTest, Linked, linkedTest, Listed, listedTest, Short, shortTest, Cascaded, cascadedTest, Held, heldTest}
+use Rattle.registry.specs.Words.{revoked, hasList}
+use Rattle.registry.specs.Sound.{Issued, issuedTest, Ascend, ascendTest, Unregistered, unregisteredTest, Linked, linkedTest, ParentHasList, parentHasListTest, Short, shortTest, Cascaded, cascadedTest, Held, heldTest}
 
 pub issued-exactly : (n : ℕ) (id : ℕ → ℕ) (next : ℕ) → (issuedTest n id next ≡ true) ↔ Issued n id next
 issued-exactly n id next = simp tests Iff·rfl
@@ -17,7 +17,8 @@ issued-exactly n id next = simp tests Iff·rfl
 pub ascend-exactly : (m : ℕ) (recycled : ℕ → ℕ) → (ascendTest m recycled ≡ true) ↔ Ascend m recycled
 ascend-exactly m recycled = simp tests (λ h k l. h k (omega arith), λ h k l. h k (omega arith))
 
-pub unregistered-exactly : (m : ℕ) (recycled : ℕ → ℕ) (n : ℕ) (id : ℕ → ℕ) → (unregisteredTest m recycled n id ≡ true) ↔ Unregistered m recycled n id
+pub unregistered-exactly : (m : ℕ) (recycled : ℕ → ℕ) (n : ℕ) (id : ℕ → ℕ)
+    → (unregisteredTest m recycled n id ≡ true) ↔ Unregistered m recycled n id
 unregistered-exactly m recycled n id = simp tests Iff·rfl
 
 pub linked-exactly : (n : ℕ) (link : ℕ → ℕ) → (linkedTest n link ≡ true) ↔ Linked n link
@@ -31,9 +32,9 @@ named-exactly l t =
       λ f. some .1 (λ u. f (pred l) (omega arith)),
     )
 
-pub listed-exactly : (n : ℕ) (link state : ℕ → ℕ) → (listedTest n link state ≡ true) ↔ Listed n link state
-listed-exactly n link state =
-    let named : (k : ℕ) → _ = λ k. named-exactly (link k) (λ p. eqb (listed (state p)) 1) in
+pub has-list-exactly : (n : ℕ) (link state : ℕ → ℕ) → (parentHasListTest n link state ≡ true) ↔ ParentHasList n link state
+has-list-exactly n link state =
+    let named : (k : ℕ) → _ = λ k. named-exactly (link k) (λ p. eqb (hasList (state p)) 1) in
     simp (all-exactly, named, eqb-exactly) Iff·rfl
 
 pub short-exactly : (n : ℕ) (link : ℕ → ℕ) → (shortTest n link ≡ true) ↔ Short n link

@@ -9,8 +9,8 @@ use native.Mathlib.Omega.{arith}
 use lib.ListN.{length, getD, set, length-set}
 use lib.Seq.{getD-set-same, getD-set-other}
 use Rattle.base.specs.Distinct.{Differ}
-use Rattle.registry.specs.Words.{idAt, objectAt, stateAt, linkAt, recycledAt, revoked, listed}
-use Rattle.registry.specs.Sound.{Listed, Cascaded}
+use Rattle.registry.specs.Words.{idAt, objectAt, stateAt, linkAt, recycledAt, revoked, hasList}
+use Rattle.registry.specs.Sound.{ParentHasList, Cascaded}
 use Rattle.registry.specs.Rules.{RegisteredRules, RecycledRules, Same, differ-same, registered-links, registered-same, recycled-same}
 
 -- Of the words only states change, each as `How` says of its place, of what it was and of what it is now.
@@ -103,13 +103,13 @@ module _ {How : ℕ → ℕ → ℕ → Type 0} (places : ℕ) (rg rg′ : List 
 
       -- What is said of states is to be shown,
       pub states-only-registered :
-          Listed n (linkAt places rg′) (stateAt places rg′) → Cascaded n (linkAt places rg′) (stateAt places rg′)
+          ParentHasList n (linkAt places rg′) (stateAt places rg′) → Cascaded n (linkAt places rg′) (stateAt places rg′)
           → RegisteredRules places n next rg → RegisteredRules places n next rg′
       states-only-registered = registered-links places n next rg rg′ below (λ k l. same-links k)
 
       -- or that both flags stay.
       pub flags-same-registered :
-          Same n (λ k. listed (stateAt places rg k)) (λ k. listed (stateAt places rg′ k))
+          Same n (λ k. hasList (stateAt places rg k)) (λ k. hasList (stateAt places rg′ k))
           → Same n (λ k. revoked (stateAt places rg k)) (λ k. revoked (stateAt places rg′ k))
           → RegisteredRules places n next rg → RegisteredRules places n next rg′
       flags-same-registered = registered-same places n next rg rg′ below (λ k l. same-links k)

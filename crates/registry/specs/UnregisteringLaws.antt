@@ -73,7 +73,8 @@ module _ (k : ℕ) where
       mended-other m (i + 1) (set xs i v) j (⊎-elim (λ l. inl (omega arith)) (λ u. inr (omega arith)) out)
       ∙ getD-set-other xs i j v 0 (⊎-elim (λ l. omega arith) (λ u. omega arith) out)
 
-  mended-in : (m i : ℕ) (xs : List ℕ) (j : ℕ) → i + m ≤ length xs → i ≤ j → j < i + m → getD (linksMended k i m xs) j 0 ≡ relinked k (getD xs j 0)
+  mended-in : (m i : ℕ) (xs : List ℕ) (j : ℕ) → i + m ≤ length xs → i ≤ j → j < i + m
+      → getD (linksMended k i m xs) j 0 ≡ relinked k (getD xs j 0)
   unfolding linksMended
   mended-in zero i xs j fits l u = absurd (omega arith)
   mended-in (suc m) i xs j fits l u =
@@ -134,7 +135,12 @@ module _ (places n k : ℕ) (rg : List ℕ) (inside : k < n) (fit : n ≤ places
   states-closed = closed (2 * places) k n rg₂ inside (omega (arith, ids-closed .same-length, objects-closed .same-length))
 
   links-closed : Closed (3 * places) k n rg₃ rg₄
-  links-closed = closed (3 * places) k n rg₃ inside (omega (arith, ids-closed .same-length, objects-closed .same-length, states-closed .same-length))
+  links-closed = closed (3 * places) k n rg₃ inside (omega (
+    arith,
+    ids-closed .same-length,
+    objects-closed .same-length,
+    states-closed .same-length,
+  ))
 
   length-closed : length rg₄ ≡ length rg
   length-closed = links-closed .same-length ∙ states-closed .same-length ∙ objects-closed .same-length ∙ ids-closed .same-length
@@ -255,7 +261,8 @@ module _ (places n k : ℕ) (rg : List ℕ) (inside : k < n) (fit : n ≤ places
       (m next : ℕ) (spaces : ℕ → ℕ) → RegistryRules places n m next spaces rg → RegistryRules places (n - 1) m next spaces rest
   unregistered-keeps m next spaces rules =
       let old : RecycledRules places n m next rg = rules .recycled in
-      let again : Same m (recycledAt places rg) (recycledAt places rest) = λ j l. unregistered-before .behind (4 * places + j) (omega arith) in
+      let again : Same m (recycledAt places rg) (recycledAt places rest) =
+      λ j l. unregistered-before .behind (4 * places + j) (omega arith) in
       record {
         registered = rest-rules next (rules .registered);
         recycled = record {

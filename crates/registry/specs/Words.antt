@@ -1,7 +1,7 @@
 -- The words of the registry with R places: four columns of R words, ids, objects, states, links, then R + 1 words of recycled ids.
 -- The registered ids stand in the first places of the columns, in the order of registration, without a gap.
--- A state is revoked + 2 * listed + 4 * holders: revoked and listed are 0 or 1; `listed` says that the id has a list of children, which
--- may be empty. The generation of an id is its revoked flag, so it is 0 if unrevoked and 1 if revoked.
+-- A state is revoked + 2 * hasList + 4 * holders: `revoked` and `hasList` are 0 or 1; `hasList` says that the id has a list of children,
+-- which may be empty. The generation of an id is its revoked flag, so it is 0 if unrevoked and 1 if revoked.
 -- A link is 0, or 1 + the place of the parent: the children of place p are the places whose link names p, in their order, and that is
 -- the order in which the source's lists have them.
 use mathlib.Core.Bool.{Bool}
@@ -29,8 +29,8 @@ recycledAt places rg k = getD rg (4 * places + k) 0
 abbrev pub revoked : ℕ → ℕ
 revoked state = state % 2
 
-abbrev pub listed : ℕ → ℕ
-listed state = state / 2 % 2
+abbrev pub hasList : ℕ → ℕ
+hasList state = state / 2 % 2
 
 abbrev pub holders : ℕ → ℕ
 holders state = state / 4

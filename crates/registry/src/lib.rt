@@ -1,4 +1,5 @@
-// The registry, on its own slice of words.
+// The registry of ids on its own slice of words: ids registered, recycled and collected, their holders, who was derived from whom, and the
+// look over all of it.
 pub mod children;
 pub mod descent;
 pub mod holders;

@@ -7,7 +7,7 @@ ghost use lib.ListN.{length, getD, take};
 ghost use Rattle.base.specs.Below.{all};
 ghost use Rattle.base.specs.Chain.{Chained};
 ghost use Rattle.base.specs.Choose.{both};
-ghost use Rattle.registry.specs.Words.{idAt, stateAt, linkAt, revoked, listed, holders};
+ghost use Rattle.registry.specs.Words.{idAt, stateAt, linkAt, revoked, hasList, holders};
 ghost use Rattle.registry.specs.Sound.{unregisteredId, withinTest, registryTest};
 ghost use Rattle.registry.specs.Counts.{Counted, countEntry, countEntries, AtMost};
 ghost use Rattle.registry.specs.Look.{placeTest, placesTest, recycledIdTest, passesTest};
@@ -17,7 +17,7 @@ use base::distinct::place_of;
 
 // Whether a child may have this state below a parent of that state: the parent has a list, and is not revoked unless the child is.
 fn child_sound(parent: u64, child: u64) -> bool
-    ensures { λ r. ⌜ r ≡ both (eqb (listed parent) 1) (leb (revoked parent) (revoked child)) ⌝ }
+    ensures { λ r. ⌜ r ≡ both (eqb (hasList parent) 1) (leb (revoked parent) (revoked child)) ⌝ }
 {
     if parent / 2 % 2 == 1 {
         return parent % 2 <= child % 2;

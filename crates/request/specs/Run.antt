@@ -15,7 +15,7 @@ use Rattle.manager_calls.specs.Calls as manager
 use Rattle.notification_calls.specs.Calls as notification
 use Rattle.revocation_calls.specs.Calls as revocation
 use Rattle.space_calls.specs.Calls as space
-use Rattle.steps.specs.Replies.{Left, Listed, done, refusal, refuse}
+use Rattle.steps.specs.Replies.{Left, WithArea, done, refusal, refuse}
 use Rattle.steps.specs.declared.Reply.{Reply}
 use Rattle.world.specs.Open.{opened, opening}
 use Rattle.world.specs.declared.Numbers.{Numbers}
@@ -136,18 +136,18 @@ pub record Ran (bytes mem after lines longer : List ℕ) (behind : ℕ) : Type 0
 abbrev pub linesFor : ℕ → ℕ
 linesFor n = pick (ltb 49152 n) 2049 ((n + 23) / 24)
 
-abbrev pub unwritten : Answer → List ℕ → List ℕ → Left Listed
+abbrev pub unwritten : Answer → List ℕ → List ℕ → Left WithArea
 unwritten answer mem area = record { reply = record { reply = refusal answer; area = area }; memory = mem }
 
 -- The lines go to the front of the lent area; the value is how many bytes they are.
-abbrev pub laidOut : Run → List ℕ → Left Listed
+abbrev pub laidOut : Run → List ℕ → Left WithArea
 laidOut run area = record {
   reply = record { reply = done (length (run .lines)); area = written (run .lines) area };
   memory = run .memory;
 }
 
 -- 21 first, for an area too short for as many lines of 28 bytes as there can be; then what the opening answers.
-unfoldable pub runOut : List ℕ → List ℕ → List ℕ → Left Listed
+unfoldable pub runOut : List ℕ → List ℕ → List ℕ → Left WithArea
 runOut bytes mem area =
     let begun = opening numbers quotas mem in
     when (ltb (length area) (28 * linesFor (length bytes))) (unwritten BadField mem area)

@@ -143,7 +143,8 @@ module _ (n : ℕ) (lg : List ℕ) where
   unfolding absentOf
   absent-differ = sifted-once (λ pair. not (logHas n lg pair))
 
-  pub absent-pairs : (pairs : List ℕ) → Pairs (length pairs) (pairAt pairs) → Pairs (length (absentOf n lg pairs)) (pairAt (absentOf n lg pairs))
+  pub absent-pairs : (pairs : List ℕ) → Pairs (length pairs) (pairAt pairs)
+      → Pairs (length (absentOf n lg pairs)) (pairAt (absentOf n lg pairs))
   absent-pairs pairs coded k l =
       let ((j, (u, e)), _) = absent-exactly pairs (pairAt (absentOf n lg pairs) k) .0 (k, (l, refl)) in
       rw (← e) (coded j u)

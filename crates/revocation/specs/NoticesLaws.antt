@@ -51,9 +51,11 @@ notices-more qu (suc m) i =
     let next : suc m + 1 ≡ suc (m + 1) = omega arith in
     rw next (rw (notices-more qu m (i + 1), place))
 
-pub notices-begun : (pid id time reason : ℕ) (qu : List ℕ) → 771 ≤ length qu → notices (begun pid id time reason qu) ≡ id ∷ time ∷ reason ∷ []
+pub notices-begun : (pid id time reason : ℕ) (qu : List ℕ) → 771 ≤ length qu
+    → notices (begun pid id time reason qu) ≡ id ∷ time ∷ reason ∷ []
 unfolding notices noticesFrom
-notices-begun pid id time reason qu long = rw (length-of-begun pid id time reason qu long) (ap wordsOf (notice-begun pid id time reason qu long))
+notices-begun pid id time reason qu long = rw (length-of-begun pid id time reason qu long)
+    (ap wordsOf (notice-begun pid id time reason qu long))
 
 -- Without its oldest notice.
 oldest-gone : (qu ws : List ℕ) (m i : ℕ) → drop 3 (noticesFrom qu i (m + 1) ++ ws) ≡ noticesFrom qu (i + 1) m ++ ws
@@ -94,7 +96,11 @@ module _ (id time reason : ℕ) (qu : List ℕ) (long : 771 ≤ length qu) (code
   pub notices-pushed : lengthOf qu ≤ 256 → notices (pushed id time reason qu) ≡ lastWords 768 (notices qu ++ (id ∷ time ∷ reason ∷ []))
   notices-pushed short =
       let words : List ℕ = notices qu ++ (id ∷ time ∷ reason ∷ []) in
-      let count : length words ≡ 3 * lengthOf qu + 3 = omega (arith, length-append (notices qu) (id ∷ time ∷ reason ∷ []), length-notices qu) in
+      let count : length words ≡ 3 * lengthOf qu + 3 = omega (
+        arith,
+        length-append (notices qu) (id ∷ time ∷ reason ∷ []),
+        length-notices qu,
+      ) in
       by-cases (decLt (lengthOf qu) 256)
       (λ room. let none : length words - 768 ≡ 0 = omega (arith, count) in rw none (one-more room))
       (λ full. let three : length words - 768 ≡ 3 = omega (arith, count) in rw three (one-moved (omega arith)))

@@ -23,7 +23,7 @@ pushed id time reason qu =
 unfoldable pub begun : ℕ → ℕ → ℕ → ℕ → List ℕ → List ℕ
 begun pid id time reason qu = set (set (set (noticeSet 0 id time reason qu) 0 pid) 1 0) 2 1
 
--- The queue is no more: its place is free.
+-- The queue is freed: its place can be used again.
 unfoldable pub freed : List ℕ → List ℕ
 freed qu = set qu 2 0
 

@@ -120,7 +120,8 @@ module _ (id time reason : ℕ) (qu : List ℕ) (long : 771 ≤ length qu) (code
   module _ (room : lengthOf qu < 256) where
     behind : Joined qu (pushed id time reason qu) (notice id time reason) (ringAt qu (lengthOf qu)) 2 (lengthOf qu + 1)
     unfolding pushed
-    behind = rw (lt-ltb (lengthOf qu) 256 room) (joins id time reason qu (ringAt qu (lengthOf qu)) 2 (lengthOf qu + 1) long (omega arith) (omega arith))
+    behind = rw (lt-ltb (lengthOf qu) 256 room) (joins id time reason qu (ringAt qu (lengthOf qu)) 2 (lengthOf qu + 1) long (omega arith)
+        (omega arith))
 
     first-stays : firstOf (pushed id time reason qu) ≡ firstOf qu
     first-stays = behind .others 1 (omega arith) (λ e. omega arith)
@@ -141,7 +142,8 @@ module _ (id time reason : ℕ) (qu : List ℕ) (long : 771 ≤ length qu) (code
   module _ (full : lengthOf qu ≡ 256) where
     over : Joined qu (pushed id time reason qu) (notice id time reason) (firstOf qu) 1 ((firstOf qu + 1) % 256)
     unfolding pushed
-    over = rw (le-ltb (lengthOf qu) 256 (omega arith)) (joins id time reason qu (firstOf qu) 1 ((firstOf qu + 1) % 256) long coded (omega arith))
+    over = rw (le-ltb (lengthOf qu) 256 (omega arith))
+        (joins id time reason qu (firstOf qu) 1 ((firstOf qu + 1) % 256) long coded (omega arith))
 
     pub length-stays : lengthOf (pushed id time reason qu) ≡ 256
     length-stays = over .others 2 (omega arith) (λ e. omega arith) ∙ full

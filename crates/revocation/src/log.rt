@@ -83,7 +83,7 @@ fn keep_indexing(
 }
 
 // Those of the first `count` pairs that the log, of n pairs, has not come to the front, in order; answers how many. For one pair the log is
-// gone along; for more it is indexed once, a short one in a small index.
+// scanned; for more it is indexed once, a short one in a small index.
 pub fn keep_absent(lg: &[u64], n: usize, pairs: &mut [u64], count: usize) -> usize
     requires { ⌜ (n ≤ length (now lg)) × (n ≤ 8192) × (count ≤ length (now pairs)) ⌝ }
     requires { ⌜ Differ n (pairAt (now lg)) ⌝ }

@@ -15,7 +15,7 @@ use Rattle.revocation.specs.Log.{pairOf, logHas}
 use Rattle.revocation.specs.Reason.{reasonOf, nameOf}
 use Rattle.space.specs.Lookup.{lookedUp}
 use Rattle.steps.specs.Enter.{onWorld, onSpace}
-use Rattle.steps.specs.Replies.{Left, Listed, done, refusal, refuse}
+use Rattle.steps.specs.Replies.{Left, WithArea, done, refusal, refuse}
 use Rattle.revocation_steps.specs.Revocation.{logOf}
 use Rattle.steps.specs.Steps.{spaceOf, lookupStep, placeIn}
 use Rattle.steps.specs.declared.Reply.{Reply}
@@ -66,8 +66,8 @@ unfoldable pub epochOut : List ℕ → Reply
 epochOut mem = onWorld refusal mem (λ d. done (epochOf mem))
 
 -- A list goes to the front of the lent area, whose places past it stay unchanged; the value is its length. 21 for an area too short.
-unfoldable pub listedIn : List ℕ → List ℕ → Listed
-listedIn xs area =
+unfoldable pub intoArea : List ℕ → List ℕ → WithArea
+intoArea xs area =
     when (ltb (length area) (length xs)) (record { reply = refusal BadField; area = area })
     (record { reply = done (length xs); area = written xs area })
 
@@ -77,13 +77,13 @@ descendants d mem r =
     let rg = view d registry mem in
     pick (ltb r (registeredOf mem)) (idsAt rg (drop 1 (descent (d .places) (registeredOf mem) rg r))) []
 
-unfoldable pub descendantsOut : List ℕ → ℕ → List ℕ → Listed
+unfoldable pub descendantsOut : List ℕ → ℕ → List ℕ → WithArea
 descendantsOut mem id area =
     onWorld (λ a. record { reply = refusal a; area = area }) mem (λ d.
     when (leb (2 ^ 48) id) (record { reply = refusal BadField; area = area })
-    (listedIn (descendants d mem (placeIn d mem id)) area))
+    (intoArea (descendants d mem (placeIn d mem id)) area))
 
 -- The name of a reason, by its number: it has no memory to look at. 21 for a number that is no reason's too.
-unfoldable pub reasonOut : ℕ → List ℕ → Listed
+unfoldable pub reasonOut : ℕ → List ℕ → WithArea
 reasonOut reason area =
-    when (ltb 3 reason) (record { reply = refusal BadField; area = area }) (listedIn (nameOf (reasonOf reason)) area)
+    when (ltb 3 reason) (record { reply = refusal BadField; area = area }) (intoArea (nameOf (reasonOf reason)) area)

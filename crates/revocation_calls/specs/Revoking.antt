@@ -38,8 +38,8 @@ revoking d r time listed mem =
     (carryingOut d (cascade d mem r) (cascadeIds d mem r) (cascadePairs d mem r) time listed mem)
 
 -- Unregistered: the token's pair joins the log if absent, epoch plus one, 0.
-unfoldable pub listing : Numbers → ℕ → List ℕ → Left Reply
-listing d token mem =
+unfoldable pub loggingToken : Numbers → ℕ → List ℕ → Left Reply
+loggingToken d token mem =
     let pairs = absentOf (loggedOf mem) (logOf d mem) (pairOf (idOf token) (generationOf token) ∷ []) in
     when (ltb (d .pairs) (loggedOf mem + length pairs)) (refuse mem LogFull)
     (record { reply = done 0; memory = addStep epochWord 1 (logStep d pairs mem) })
@@ -48,7 +48,7 @@ listing d token mem =
 unfoldable pub revokingToken : Numbers → ℕ → ℕ → List ℕ → List ℕ → Left Reply
 revokingToken d token time listed mem =
     let r = placeIn d mem (idOf token) in
-    pick (ltb r (registeredOf mem)) (revoking d r time listed mem) (listing d token mem)
+    pick (ltb r (registeredOf mem)) (revoking d r time listed mem) (loggingToken d token mem)
 
 -- Held revoke: 8 for a token that the space has not, 2 without REVOKE. The count is the visits of its lookup.
 abbrev pub revokingHeld : Numbers → ℕ → ℕ → List ℕ → List ℕ → Got → ℕ → Left Reply

@@ -3,7 +3,7 @@ ghost use mathlib.Core.Path.{_≡_};
 ghost use Prim.Native.Nat.{_<_};
 ghost use Rattle.world.specs.Numbers.{registeredOf};
 ghost use Rattle.world.specs.Sound.{SoundAt};
-ghost use Rattle.revocation_calls.specs.Calls.{isRevokedOut, epochOut, descendants, listedIn, descendantsOut, reasonOut};
+ghost use Rattle.revocation_calls.specs.Calls.{isRevokedOut, epochOut, descendants, intoArea, descendantsOut, reasonOut};
 use answers::Answer;
 use revocation::reason_of;
 use revocation_steps::descent::descend;
@@ -47,7 +47,7 @@ fn list_under(mem: &[u64], d: Numbers, r: usize, area: &mut [u64]) -> Reply
     requires { ⌜ SoundAt d (now mem) × (r < registeredOf (now mem)) ⌝ }
     ensures { λ reply. ⌜
         record { reply = reply; area = now (area .exit) }
-        ≡ listedIn (descendants d (now (mem .entry)) r) (now (area .entry))
+        ≡ intoArea (descendants d (now (mem .entry)) r) (now (area .entry))
         ⌝ }
 {
     let mut order = [0u16; 4096];

@@ -6,7 +6,7 @@ ghost use lib.ListN.{length};
 ghost use Rattle.steps.specs.Replies.{done, replied};
 ghost use Rattle.world.specs.Sound.{SoundAt};
 ghost use Rattle.revocation_calls.specs.Calls.{revokeOut, revokeCapabilityOut, revokeHeldOut, revokeBatchOut};
-ghost use Rattle.revocation_calls.specs.Revoking.{listing, revokingToken, revokingHeld, revokingEach};
+ghost use Rattle.revocation_calls.specs.Revoking.{loggingToken, revokingToken, revokingHeld, revokingEach};
 use super::cascade::revoke_at;
 use answers::Answer;
 use revocation_steps::log::append_pairs;
@@ -27,9 +27,9 @@ use token::Rights;
 use world::Numbers;
 
 // The token's pair joins the log if absent, and the epoch counts one: all there is to revoke of an id that is not registered.
-fn list_token(mem: &mut [u64], d: Numbers, token: CapabilityToken) -> Reply
+fn log_token(mem: &mut [u64], d: Numbers, token: CapabilityToken) -> Reply
     requires { ⌜ SoundAt d (now mem) ⌝ }
-    ensures { λ r. ⌜ record { reply = r; memory = now (mem .exit) } ≡ listing d (token .0) (now (mem .entry)) ⌝ }
+    ensures { λ r. ⌜ record { reply = r; memory = now (mem .exit) } ≡ loggingToken d (token .0) (now (mem .entry)) ⌝ }
 {
     let mut pairs = [token.0 % 0x100_0000_0000_0000; 1];
     let absent = keep_absent(mem, d, &mut pairs, 1);
@@ -59,7 +59,7 @@ fn revoke_token(
     if r < mem[11] as usize {
         return revoke_at(mem, d, r, time, listed);
     }
-    list_token(mem, d, token)
+    log_token(mem, d, token)
 }
 
 // An answer without a value, with the visits of the call's lookup.

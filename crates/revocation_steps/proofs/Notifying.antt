@@ -65,7 +65,11 @@ module _ (d : Numbers) (mem : List ℕ) (ready : QueuesReady d mem) where
 
       after-queue : QueuesReady d (onRegion d (queue q) f mem)
       after-queue = record {
-        fits = record { in-range = ready .fits .in-range; long-enough = rw (length-kept d (queue q) f mem change) (ready .fits .long-enough) };
+        fits = record {
+          in-range = ready .fits .in-range;
+          long-enough = rw (length-kept d (queue q) f mem change)
+              (ready .fits .long-enough);
+        };
         firsts = λ p u.
             by-cases (ℕ-discrete p q)
             (λ e some. rw (e, view-same d (queue q) f mem change) coded)

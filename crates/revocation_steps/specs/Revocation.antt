@@ -58,7 +58,7 @@ unfoldable pub notifyAll : Numbers → List ℕ → List ℕ → ℕ → List �
 notifyAll d listed [] time mem = mem
 notifyAll d listed (id ∷ later) time mem = notifyAll d listed later time (notifyPids d listed id time mem)
 
--- A queue is no more.
+-- A queue is freed.
 unfoldable pub freeStep : Numbers → ℕ → List ℕ → List ℕ
 freeStep d q mem = onRegion d (queue q) freed mem
 

@@ -202,7 +202,7 @@ pub fn notify_all(mem: &mut [u64], d: Numbers, listed: &[u64], ids: &[u64], time
     }
 }
 
-// The queue at place q is no more.
+// The queue at place q is freed.
 pub fn free_at(mem: &mut [u64], d: Numbers, q: usize)
     requires { ⌜ Fits d (now mem) × (q < d .queues) ⌝ }
     ensures { λ _. ⌜ now (mem .exit) ≡ freeStep d q (now (mem .entry)) ⌝ }

@@ -25,7 +25,7 @@ use Rattle.revocation.specs.Queue.{begun, noticesFrom, notices}
 use Rattle.revocation.specs.Sound.{queueTest, logTest}
 use Rattle.revocation_calls.specs.Calls.{revokeHeldOut}
 use Rattle.revocation_calls.specs.Revoking.{revoking, revokingToken}
-use Rattle.revocation_steps.specs.Revocation.{logStep, notifyStep, notifyPids, notifyAll, freeQueues, newQueues, revokeStep}
+use Rattle.revocation_steps.specs.Revocation.{logStep, notifyStep, notifyPids, notifyAll, freeQueues, newQueues}
 use Rattle.space.specs.Change.{inserted, insertOut}
 use Rattle.space.specs.Lookup.{exactly, lookedUp, counted}
 use Rattle.space.specs.Sound.{spaceTest}
@@ -78,7 +78,7 @@ unfolding lookupStep holdStep insertStep takenId takeStep registerStep listStep 
 steps = tt
 
 unfoldable pub cascades : Unit {0}
-unfolding logStep notifyStep notifyPids notifyAll freeQueues newQueues revokeStep
+unfolding logStep notifyStep notifyPids notifyAll freeQueues newQueues
 cascades = tt
 
 unfoldable pub calls : Unit {0}

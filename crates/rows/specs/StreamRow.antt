@@ -9,7 +9,7 @@ use Rattle.base.specs.Choose.{both}
 use Rattle.request.specs.Made.{recordOf}
 use Rattle.request.specs.Run.{numbers, runOut}
 use Rattle.request.specs.declared.Request.{Request}
-use Rattle.steps.specs.Replies.{Left, Listed}
+use Rattle.steps.specs.Replies.{Left, WithArea}
 use Rattle.world.specs.Regions.{lengthFor}
 use Rattle.rows.specs.Claims.{same}
 
@@ -56,7 +56,7 @@ lines =
     ∷ []
 
 -- The run opens a memory of the length that its world needs, and writes to an area that has room for five lines.
-run : Left Listed
+run : Left WithArea
 unfolding bytes
 run = runOut bytes (replicate (lengthFor numbers) 0) (replicate (28 * 5) 0)
 

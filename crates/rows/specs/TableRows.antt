@@ -26,7 +26,8 @@ unfolding search stepsToStop walk homeOf first firstFrom
 find id t = search (t .words) (t .counts .slots) id
 
 insert : ℕ → Table → Table
-unfolding insertNew placed madeRoom crowded roomFor nextPower rebuilt placeAll emptied liveEntries entryAt putEntry freeFor stepsToFree walk homeOf first firstFrom
+unfolding insertNew placed madeRoom crowded roomFor nextPower rebuilt placeAll emptied liveEntries entryAt putEntry freeFor stepsToFree walk
+    homeOf first firstFrom
 insert id t =
     insertNew (t .words) (t .counts) (record { capability = record { 0 = id }; object = 0; rights = record { 0 = 0 }; uses = 0 })
 

@@ -7,7 +7,7 @@ use borrow.Author.Needs.{needs}
 use lib.ListN.{length, take, drop, set, length-drop}
 use Rattle.base.specs.Arith.{next-mono}
 use Rattle.table.specs.Slots.{entryAt}
-use Rattle.table.specs.Insert.{Table, Insertable, roomFor, insertNew, removedAt, listed, none}
+use Rattle.table.specs.Insert.{Table, Insertable, roomFor, insertNew, removedAt, scratchEntries, none}
 use Rattle.table.specs.Copy.{insertAll}
 use Rattle.table.specs.declared.CapabilityEntry.{CapabilityEntry}
 use Rattle.table.specs.declared.CapTable.{CapTable}
@@ -65,7 +65,8 @@ gives sp i e is = rw lent-rest at is
 -- ---- copying
 
 module _ (sp scratch ws : List ℕ) (count : ℕ) (r : CapTable) (moved : ℕ)
-    (is : record { words = ws; counts = r; moved = moved } ≡ insertAll (listed scratch 0 count) (record { words = lent sp; counts = none; moved = 0 }))
+    (is : record { words = ws; counts = r; moved = moved }
+    ≡ insertAll (scratchEntries scratch 0 count) (record { words = lent sp; counts = none; moved = 0 }))
   where
     same : record { words = ws; counts = r; moved = moved } ≡ replacement sp scratch count
     unfolding replacement

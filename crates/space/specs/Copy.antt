@@ -3,7 +3,7 @@
 use mathlib.Core.List.{List}
 use Prim.Native.Nat.{ℕ}
 use lib.ListN.{set}
-use Rattle.table.specs.Insert.{Table, listed, none}
+use Rattle.table.specs.Insert.{Table, scratchEntries, none}
 use Rattle.table.specs.Copy.{insertAll, copied}
 use Rattle.space.specs.Words.{generationOf, tableOf, slotWords, withTable}
 
@@ -11,16 +11,17 @@ use Rattle.space.specs.Words.{generationOf, tableOf, slotWords, withTabl
 abbrev pub remade : List ℕ → Table → ℕ → List ℕ
 remade sp t generation = set (withTable sp t) 1 generation
 
--- The target after a copy of the source.
+-- The target's table after a copy of the source.
 unfoldable pub copiedTable : List ℕ → List ℕ → Table
 copiedTable source target = copied (slotWords source) (tableOf source .slots) (slotWords target)
 
+-- The target after it, with the source's generation.
 unfoldable pub copiedSpace : List ℕ → List ℕ → List ℕ
 copiedSpace source target = remade target (copiedTable source target) (generationOf source)
 
 -- The table that the scratch's first `count` entries make, from 0 slots.
 unfoldable pub replacement : List ℕ → List ℕ → ℕ → Table
-replacement sp scratch count = insertAll (listed scratch 0 count) (record { words = slotWords sp; counts = none; moved = 0 })
+replacement sp scratch count = insertAll (scratchEntries scratch 0 count) (record { words = slotWords sp; counts = none; moved = 0 })
 
 unfoldable pub replaced : List ℕ → List ℕ → ℕ → ℕ → List ℕ
 replaced sp scratch count generation = remade sp (replacement sp scratch count) generation

@@ -9,7 +9,8 @@ use Rattle.table.specs.Walk.{search, gotAt}
 use Rattle.table.specs.declared.Found.{Found}
 use Rattle.table.specs.declared.Found.the-variants.{At, Absent}
 use Rattle.table.specs.declared.Search.{Search}
-use Rattle.space.specs.Words.{tableOf, slotWords}
+use Rattle.token.specs.Token.{idOf}
+use Rattle.space.specs.Words.{hitsOf, missesOf, tableOf, slotWords}
 use Rattle.space.specs.declared.LookedUp.{LookedUp}
 
 -- A 64-bit counter goes up by one and wraps.
@@ -26,7 +27,7 @@ searchId sp id = search (slotWords sp) (tableOf sp .slots) id
 
 -- Where the token's id is found.
 abbrev pub searchFor : List ℕ → ℕ → Search
-searchFor sp token = searchId sp (token % 2 ^ 48)
+searchFor sp token = searchId sp (idOf token)
 
 -- A slot that was found counts only if it holds the whole token.
 abbrev pub wholly : List ℕ → ℕ → Found → Found
@@ -59,8 +60,8 @@ withUse sp i = set sp (8 + 4 * i + 2) (up (getD sp (8 + 4 * i + 2) 0))
 
 -- The lookup counted: a hit with its entry's use, or a miss.
 abbrev pub countedAt : List ℕ → Found → List ℕ
-countedAt sp (At i) = set (set sp 2 (up (getD sp 2 0))) (8 + 4 * i + 2) (up (getD sp (8 + 4 * i + 2) 0))
-countedAt sp Absent = set sp 3 (up (getD sp 3 0))
+countedAt sp (At i) = set (set sp 2 (up (hitsOf sp))) (8 + 4 * i + 2) (up (getD sp (8 + 4 * i + 2) 0))
+countedAt sp Absent = set sp 3 (up (missesOf sp))
 
 unfoldable pub counted : List ℕ → ℕ → List ℕ
 counted sp token = countedAt sp (exactly sp token)

@@ -24,10 +24,11 @@ tableOf sp = record { slots = getD sp 5 0; full = getD sp 6 0; tombstones = getD
 abbrev pub slotWords : List ℕ → List ℕ
 slotWords sp = drop 8 sp
 
--- The space with another table.
+-- The space with other counts of its table.
 unfoldable pub withCounts : List ℕ → CapTable → List ℕ
 withCounts sp t = set (set (set sp 5 (t .slots)) 6 (t .full)) 7 (t .tombstones)
 
+-- The space with another table, slots and counts.
 unfoldable pub withTable : List ℕ → Table → List ℕ
 withTable sp t = withCounts (take 8 sp ++ t .words) (t .counts)
 

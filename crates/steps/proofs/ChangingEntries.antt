@@ -31,7 +31,8 @@ module _ (d : Numbers) (s : ℕ) (mem : List ℕ) where
       (came : between ≡ onRegion d (space s) (λ sp. insertOut sp e .words) mem)
       (told : answer ≡ insertOut (spaceOf d s mem) e .answer) (numbered : number ≡ numberOf answer)
     where
-      pub insert-accepted : number ≡ 0 → (after : List ℕ) → after ≡ holdStep d (registeredOf mem) (idOf e) between → after ≡ insertStep d s e mem
+      pub insert-accepted : number ≡ 0 → (after : List ℕ) → after ≡ holdStep d (registeredOf mem) (idOf e) between
+          → after ≡ insertStep d s e mem
       unfolding insertStep
       insert-accepted zero after held =
           let yes : eqb (numberOf (insertOut (spaceOf d s mem) e .answer)) 0 ≡ true = rw (← told, ← numbered) (eq-eqb number 0 zero) in
@@ -46,7 +47,8 @@ module _ (d : Numbers) (s : ℕ) (mem : List ℕ) where
   module _ (token : ℕ) (between : List ℕ) (got : Got) (left : between ≡ onRegion d (space s) (λ sp. removedToken sp token) mem)
       (told : got ≡ lookedUp (spaceOf d s mem) token .got)
     where
-      pub remove-found : isEntry got ≡ true → (after : List ℕ) → after ≡ releaseStep d (registeredOf mem) (token % 2 ^ 48) between → after ≡ removeStep d s token mem
+      pub remove-found : isEntry got ≡ true → (after : List ℕ) → after ≡ releaseStep d (registeredOf mem) (token % 2 ^ 48) between
+          → after ≡ removeStep d s token mem
       unfolding removeStep
       remove-found is after released = rw (← told, is, released, left)
 

@@ -33,7 +33,8 @@ module _ (d : Numbers) (mem : List ℕ) (target source : ℕ) (ready : Ready d m
         is ∙ ap (replaced to kept count) same ∙ replaced-copies (d .most) from to s t kept zeros count whole filled
         ∙ ap (λ sp. copiedSpace sp to) from-is
 
-    pub copied-moves : (moved : ℕ) → moved ≡ replacement to kept count .moved → moved ≡ copiedTable (spaceOf d source mem) (spaceOf d target mem) .moved
+    pub copied-moves : (moved : ℕ) → moved ≡ replacement to kept count .moved
+        → moved ≡ copiedTable (spaceOf d source mem) (spaceOf d target mem) .moved
     copied-moves moved is =
         is ∙ ap (λ (u : Table). u .moved) (replacement-copies (d .most) from to s t kept zeros count whole filled)
         ∙ rw (from-is, to-is)

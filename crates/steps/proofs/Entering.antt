@@ -31,7 +31,8 @@ module _ {A : Type 0} (refuse : Answer → A) (mem : List ℕ) (call : Numbers �
   unfolding onWorld when
   world-seen = go (not (soundTest mem))
     where
-      go : (b : Bool) → when b (refuse BadWorld) (call (numbersOf mem)) ≡ go-on refuse call (when b (Refused BadWorld) (Good (numbersOf mem)))
+      go : (b : Bool) → when b (refuse BadWorld) (call (numbersOf mem))
+          ≡ go-on refuse call (when b (Refused BadWorld) (Good (numbersOf mem)))
       go true = refl
       go false = refl
 
@@ -77,7 +78,8 @@ module _ (mem : List ℕ) where
   space-inside s d e = go (soundTest mem) refl (ltb s (numbersOf mem .spaces)) refl e
     where
       go : (b : Bool) → soundTest mem ≡ b → (c : Bool) → ltb s (numbersOf mem .spaces) ≡ c
-          → when (not b) (Refused BadWorld) (when (not c) (Refused BadSpace) (Good (numbersOf mem))) ≡ Good d → Inside mem d × (s < d .spaces)
+          → when (not b) (Refused BadWorld) (when (not c) (Refused BadSpace) (Good (numbersOf mem))) ≡ Good d
+          → Inside mem d × (s < d .spaces)
       go true t true l e =
           let same : d ≡ numbersOf mem = cc in
           (record { sound = sound-exactly mem .0 t; numbers = same }, rw same (ltb-true s (numbersOf mem .spaces) l))
@@ -87,7 +89,8 @@ module _ (mem : List ℕ) where
 -- ---- what a call knows by what it saw, r
 
 module _ (mem : List ℕ) (s : ℕ) (r : Entered) (seen : r ≡ enteredSpace mem s) where
-  pub space-refusal : {A : Type 0} (refuse : Answer → A) (call : Numbers → A) (a : Answer) → r ≡ Refused a → onSpace refuse mem s call ≡ refuse a
+  pub space-refusal : {A : Type 0} (refuse : Answer → A) (call : Numbers → A) (a : Answer) → r ≡ Refused a
+      → onSpace refuse mem s call ≡ refuse a
   space-refusal refuse call a is = space-refused refuse mem call s a (sym seen ∙ is)
 
   module _ (d : Numbers) (good : r ≡ Good d) where
@@ -103,7 +106,8 @@ module _ (mem : List ℕ) (s : ℕ) (r : Entered) (seen : r ≡ enteredSpace mem
     space-ready = (ready-at d mem (space-sound .0), space-sound .1)
 
 module _ (mem : List ℕ) (r : Entered) (seen : r ≡ enteredWorld mem) where
-  pub world-refusal : {A : Type 0} (refuse : Answer → A) (call : Numbers → A) (a : Answer) → r ≡ Refused a → onWorld refuse mem call ≡ refuse a
+  pub world-refusal : {A : Type 0} (refuse : Answer → A) (call : Numbers → A) (a : Answer) → r ≡ Refused a
+      → onWorld refuse mem call ≡ refuse a
   world-refusal refuse call a is = world-refused refuse mem call a (sym seen ∙ is)
 
   module _ (d : Numbers) (good : r ≡ Good d) where

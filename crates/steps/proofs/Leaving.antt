@@ -2,11 +2,13 @@
 use mathlib.Core.List.{List}
 use mathlib.Core.Path.{_≡_, sym, ap₂, _∙_}
 use Prim.Native.Nat.{ℕ}
-use Rattle.steps.specs.Replies.{Left, Listed}
+use Rattle.steps.specs.Replies.{Left, WithArea}
 use Rattle.steps.specs.declared.Reply.{Reply}
 
-pub left-is : {A : Type 0} {r r′ : A} {m m′ : List ℕ} {x : Left A} → r ≡ r′ → m ≡ m′ → x ≡ record { reply = r′; memory = m′ } → record { reply = r; memory = m } ≡ x
+pub left-is : {A : Type 0} {r r′ : A} {m m′ : List ℕ} {x : Left A} → r ≡ r′ → m ≡ m′ → x ≡ record { reply = r′; memory = m′ }
+    → record { reply = r; memory = m } ≡ x
 left-is same kept is = ap₂ (λ r m. record { reply = r; memory = m }) same kept ∙ sym is
 
-pub listed-is : {r r′ : Reply} {a a′ : List ℕ} {x : Listed} → r ≡ r′ → a ≡ a′ → x ≡ record { reply = r′; area = a′ } → record { reply = r; area = a } ≡ x
-listed-is same kept is = ap₂ {C = Listed} (λ r a. record { reply = r; area = a }) same kept ∙ sym is
+pub area-is : {r r′ : Reply} {a a′ : List ℕ} {x : WithArea} → r ≡ r′ → a ≡ a′ → x ≡ record { reply = r′; area = a′ }
+    → record { reply = r; area = a } ≡ x
+area-is same kept is = ap₂ {C = WithArea} (λ r a. record { reply = r; area = a }) same kept ∙ sym is

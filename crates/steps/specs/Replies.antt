@@ -25,6 +25,6 @@ abbrev pub refuse : List ℕ → Answer → Left Reply
 refuse mem answer = record { reply = refusal answer; memory = mem }
 
 -- An answer with the lent area that the call leaves.
-pub record Listed : Type 0 where
+pub record WithArea : Type 0 where
   pub reply : Reply
   pub area : List ℕ

@@ -14,7 +14,7 @@ use Rattle.base.specs.Below.{one}
 use Rattle.base.specs.SumLaws.{sum-zero, sum-update, sum-one-le, one-le}
 use Rattle.table.specs.Slots.{isLive, entryAt, putEntry, idOf}
 use Rattle.table.specs.Walk.{freeFor}
-use Rattle.table.specs.Insert.{slotsFor, Table, leaves, liveEntries, listed, emptied, placeAll, rebuilt, crowded, roomFor, Insertable, madeRoom, placed, insertNew, none}
+use Rattle.table.specs.Insert.{slotsFor, Table, leaves, liveEntries, scratchEntries, emptied, placeAll, rebuilt, crowded, roomFor, Insertable, madeRoom, placed, insertNew, none}
 use Rattle.table.specs.Copy.{fresh, insertAll}
 use Rattle.table.specs.declared.CapabilityEntry.{CapabilityEntry}
 use Rattle.table.specs.declared.CapTable.{CapTable}
@@ -41,7 +41,8 @@ free-lt : (ws : List ℕ) (slots id : ℕ) → 0 < slots → freeFor ws slots id
 unfolding freeFor
 free-lt ws slots id pos = walk-lt id slots _ pos
 
-all-live : (es : List CapabilityEntry) (ws : List ℕ) (slots : ℕ) → 0 < slots → liveIn (placeAll es ws slots) slots ≤ liveIn ws slots + length es
+all-live : (es : List CapabilityEntry) (ws : List ℕ) (slots : ℕ) → 0 < slots
+    → liveIn (placeAll es ws slots) slots ≤ liveIn ws slots + length es
 unfolding placeAll
 all-live [] ws slots pos = omega arith
 all-live (e ∷ es) ws slots pos =
@@ -80,7 +81,8 @@ record Roomy (most i : ℕ) (t : Table) : Type 0 where
   counted : liveIn (t .words) (t .counts .slots) ≤ t .counts .full
   no-marks : t .counts .tombstones ≡ 0
 
-module _ (most i : ℕ) (t : Table) (small : most ≤ 256) (more : i < most) (long : 4 * slotsFor most ≤ length (t .words)) (b : Bounded most i t) where
+module _ (most i : ℕ) (t : Table) (small : most ≤ 256) (more : i < most) (long : 4 * slotsFor most ≤ length (t .words))
+    (b : Bounded most i t) where
   bounded-insertable : Insertable (t .words) (t .counts)
   bounded-insertable =
       record {
@@ -155,20 +157,20 @@ module _ (most i : ℕ) (ws : List ℕ) (s : Inserted) (b : Bounded most i (leav
 -- ---- the turns: the entries of the scratch are copied from entry i on
 
 module _ (scratch : List ℕ) (count : ℕ) where
-  pub copy-starts : (t : Table) → insertAll (listed scratch 0 (count - 0)) t ≡ insertAll (listed scratch 0 count) t
-  copy-starts t = ap (λ n. insertAll (listed scratch 0 n) t) (sub-zero count)
+  pub copy-starts : (t : Table) → insertAll (scratchEntries scratch 0 (count - 0)) t ≡ insertAll (scratchEntries scratch 0 count) t
+  copy-starts t = ap (λ n. insertAll (scratchEntries scratch 0 n) t) (sub-zero count)
 
-  pub copy-goes : (i : ℕ) (e : CapabilityEntry) (t u whole : Table) → insertAll (listed scratch i (count - i)) t ≡ whole → i < count
-      → e ≡ entryAt scratch i → u ≡ insertAll (e ∷ []) t → insertAll (listed scratch (i + 1) (count - (i + 1))) u ≡ whole
-  unfolding listed insertAll
+  pub copy-goes : (i : ℕ) (e : CapabilityEntry) (t u whole : Table) → insertAll (scratchEntries scratch i (count - i)) t ≡ whole → i < count
+      → e ≡ entryAt scratch i → u ≡ insertAll (e ∷ []) t → insertAll (scratchEntries scratch (i + 1) (count - (i + 1))) u ≡ whole
+  unfolding scratchEntries insertAll
   copy-goes i e t u whole left l is next =
       let more : count - i ≡ suc (count - suc i) = omega arith in
-      rw (next, is, add-one) (sym (ap (λ n. insertAll (listed scratch i n) t) more) ∙ left)
+      rw (next, is, add-one) (sym (ap (λ n. insertAll (scratchEntries scratch i n) t) more) ∙ left)
 
-  pub copy-ends : (i : ℕ) (t whole : Table) → insertAll (listed scratch i (count - i)) t ≡ whole → count ≤ i → t ≡ whole
-  unfolding listed insertAll
+  pub copy-ends : (i : ℕ) (t whole : Table) → insertAll (scratchEntries scratch i (count - i)) t ≡ whole → count ≤ i → t ≡ whole
+  unfolding scratchEntries insertAll
   copy-ends i t whole left l =
       let none : count - i ≡ 0 = omega arith in
-      sym (ap (λ n. insertAll (listed scratch i n) t) none) ∙ left
+      sym (ap (λ n. insertAll (scratchEntries scratch i n) t) none) ∙ left
 
 pub ruleset copy-laws = (bounded-starts, bounded-asks, bounded-goes, copy-starts, copy-goes, copy-ends, needs)

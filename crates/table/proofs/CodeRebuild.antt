@@ -9,7 +9,7 @@ use borrow.Author.Needs.{needs}
 use lib.ListN.{set}
 use Rattle.table.specs.Slots.{entryAt, putEntry, idOf}
 use Rattle.table.specs.Walk.{freeFor}
-use Rattle.table.specs.Insert.{Scratch, emptied, gathered, listed, placeAll}
+use Rattle.table.specs.Insert.{Scratch, emptied, gathered, scratchEntries, placeAll}
 use Rattle.table.specs.declared.CapabilityEntry.{CapabilityEntry}
 
 -- ---- slots emptied, from slot 0 up
@@ -50,22 +50,22 @@ pub ruleset gather-laws = (gather-starts, gather-goes, gather-ends, needs)
 -- ---- entries placed: those of the scratch from entry i on
 
 pub place-starts : (scratch ws : List ℕ) (slots count : ℕ)
-    → placeAll (listed scratch 0 (count - 0)) ws slots ≡ placeAll (listed scratch 0 count) ws slots
-place-starts scratch ws slots count = ap (λ n. placeAll (listed scratch 0 n) ws slots) (sub-zero count)
+    → placeAll (scratchEntries scratch 0 (count - 0)) ws slots ≡ placeAll (scratchEntries scratch 0 count) ws slots
+place-starts scratch ws slots count = ap (λ n. placeAll (scratchEntries scratch 0 n) ws slots) (sub-zero count)
 
 pub place-goes : (scratch ws after whole : List ℕ) (slots count i j id : ℕ) (e : CapabilityEntry)
-    → placeAll (listed scratch i (count - i)) ws slots ≡ whole → i < count → e ≡ entryAt scratch i → id ≡ idOf e
-    → j ≡ freeFor ws slots id → after ≡ putEntry ws j e → placeAll (listed scratch (i + 1) (count - (i + 1))) after slots ≡ whole
-unfolding listed placeAll
+    → placeAll (scratchEntries scratch i (count - i)) ws slots ≡ whole → i < count → e ≡ entryAt scratch i → id ≡ idOf e
+    → j ≡ freeFor ws slots id → after ≡ putEntry ws j e → placeAll (scratchEntries scratch (i + 1) (count - (i + 1))) after slots ≡ whole
+unfolding scratchEntries placeAll
 place-goes scratch ws after whole slots count i j id e h l r s t u =
     let more : count - i ≡ suc (count - suc i) = omega arith in
-    rw (u, t, s, r, add-one) (sym (ap (λ n. placeAll (listed scratch i n) ws slots) more) ∙ h)
+    rw (u, t, s, r, add-one) (sym (ap (λ n. placeAll (scratchEntries scratch i n) ws slots) more) ∙ h)
 
 pub place-ends : (scratch ws whole : List ℕ) (slots count i : ℕ)
-    → placeAll (listed scratch i (count - i)) ws slots ≡ whole → count ≤ i → ws ≡ whole
-unfolding listed placeAll
+    → placeAll (scratchEntries scratch i (count - i)) ws slots ≡ whole → count ≤ i → ws ≡ whole
+unfolding scratchEntries placeAll
 place-ends scratch ws whole slots count i h l =
     let none : count - i ≡ 0 = omega arith in
-    sym (ap (λ n. placeAll (listed scratch i n) ws slots) none) ∙ h
+    sym (ap (λ n. placeAll (scratchEntries scratch i n) ws slots) none) ∙ h
 
 pub ruleset place-laws = (place-starts, place-goes, place-ends, needs)

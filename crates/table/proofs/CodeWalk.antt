@@ -73,12 +73,14 @@ module _ (ws : List ℕ) (slots id i n : ℕ) (l : i < slots) where
   from-passes : stops ws id i ≡ false → searchFrom ws slots id i (n + 1) ≡ later 1 (searchFrom ws slots id ((i + 1) % slots) n)
   unfolding searchFrom
   from-passes passed =
-      let next : (t : ℕ) → (i + (t + 1)) % slots ≡ ((i + 1) % slots + t) % slots = λ t. rw mod-add-mod (ap (λ x. x % slots) (omega arith)) in
+      let next : (t : ℕ) → (i + (t + 1)) % slots ≡ ((i + 1) % slots + t) % slots =
+      λ t. rw mod-add-mod (ap (λ x. x % slots) (omega arith)) in
       let steps = simp next at (first-after (λ t. stops ws id ((i + t) % slots)) n (rw here passed)) in
       rw (steps, next, ended-later)
 
 -- A search over n slots with the answer s goes on at slot i, after `passed` visits.
-module _ (ws : List ℕ) (slots id n passed i : ℕ) (s : Search) (left : s ≡ later passed (searchFrom ws slots id i (n - passed))) (l : i < slots)
+module _ (ws : List ℕ) (slots id n passed i : ℕ) (s : Search) (left : s ≡ later passed (searchFrom ws slots id i (n - passed)))
+    (l : i < slots)
   where
     module _ (more : passed < n) (k : ℕ) (kind : k ≡ kindAt ws i) where
       one-more : n - (passed + 1) + 1 ≡ n - passed
@@ -130,7 +132,8 @@ module _ (ws : List ℕ) (slots id i : ℕ) (home : i ≡ homeOf id slots) where
   home-starts = rw (from-home, ← home) (find-starts ws slots id i slots)
 
   module _ (l : i < slots) (k : ℕ) (kind : k ≡ kindAt ws i) where
-    pub home-found : (b : Bool) → b ≡ both (eqb k 2) (eqb (idAt ws i) id) → b ≡ true → record { found = At i; visits = 1 } ≡ search ws slots id
+    pub home-found : (b : Bool) → b ≡ both (eqb k 2) (eqb (idAt ws i) id) → b ≡ true
+        → record { found = At i; visits = 1 } ≡ search ws slots id
     home-found = find-found ws slots id slots 0 i (search ws slots id) home-starts l (omega arith) k kind
 
     pub home-empty : k ≡ 0 → record { found = Absent; visits = 1 } ≡ search ws slots id
@@ -167,7 +170,8 @@ module _ (ws : List ℕ) (slots id : ℕ) where
     pub free-stops : (k : ℕ) → t < slots → k ≡ kindAt ws i → ¬ (k ≡ 2) → i ≡ freeFor ws slots id
     unfolding freeFrom freeFor
     free-stops k l e other =
-        w ∙ ap (walk id slots) (first-up-found (isFree ws slots id) slots t (stepsToFree ws slots id) left l (rw (← w, ← e, ne-eqb k 2 other)))
+        w ∙ ap (walk id slots) (first-up-found (isFree ws slots id) slots t (stepsToFree ws slots id) left l
+        (rw (← w, ← e, ne-eqb k 2 other)))
 
     pub free-ends : slots ≤ t → i ≡ freeFor ws slots id
     unfolding freeFrom freeFor

@@ -31,9 +31,9 @@ liveEntries ws i zero = []
 liveEntries ws i (suc n) = let r = liveEntries ws (suc i) n in pick (isLive ws i) (entryAt ws i ∷ r) r
 
 -- The entries of slots i to i + n - 1, whatever their kind: what a scratch array is filled with.
-unfoldable pub listed : List ℕ → ℕ → ℕ → List CapabilityEntry
-listed ws i zero = []
-listed ws i (suc n) = entryAt ws i ∷ listed ws (suc i) n
+unfoldable pub scratchEntries : List ℕ → ℕ → ℕ → List CapabilityEntry
+scratchEntries ws i zero = []
+scratchEntries ws i (suc n) = entryAt ws i ∷ scratchEntries ws (suc i) n
 
 -- A scratch array and how many entries it holds.
 pub record Scratch : Type 0 where

@@ -8,7 +8,7 @@ use lib.Dec.{eqb, leb}
 use Rattle.base.specs.Arith.{nextPower}
 use Rattle.base.specs.Below.{all, sum, one}
 use Rattle.base.specs.Choose.{pick, both}
-use Rattle.base.specs.Listed.{listed}
+use Rattle.base.specs.Compacted.{compacted}
 use Rattle.table.specs.Slots.{kindAt, isEmpty, isRemoved, isLive, idAt}
 use Rattle.table.specs.Walk.{walk, search}
 use Rattle.table.specs.Insert.{slotsFor}
@@ -86,4 +86,4 @@ soundTest most ws t =
 
 -- The numbers of the live ones of the first n slots, over what stood there: the look lists them first, and searches then.
 unfoldable pub liveSlots : List ℕ → ℕ → List ℕ → List ℕ
-liveSlots ws n xs = listed (λ i. i) (isLive ws) n xs
+liveSlots ws n xs = compacted (λ i. i) (isLive ws) n xs

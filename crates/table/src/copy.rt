@@ -3,7 +3,7 @@ ghost use mathlib.Core.Path.{_≡_};
 ghost use mathlib.Core.List.{[], _∷_};
 ghost use Prim.Native.Nat.{_*_, _^_, _≤_};
 ghost use lib.ListN.{length};
-ghost use Rattle.table.specs.Insert.{slotsFor, liveEntries, listed, leaves, none, Insertable};
+ghost use Rattle.table.specs.Insert.{slotsFor, liveEntries, scratchEntries, leaves, none, Insertable};
 ghost use Rattle.table.specs.Copy.{nthOf, insertAll};
 use super::CapTable;
 use super::CapabilityEntry;
@@ -65,7 +65,7 @@ pub fn copy_from(words: &mut [u64], scratch: &[u64; 2048], count: usize) -> Inse
     requires { ⌜ (count ≤ 256) × (4 * slotsFor count ≤ length (now words)) ⌝ }
     ensures { λ r. ⌜
         leaves (now (words .exit)) r
-        ≡ insertAll (listed (now (scratch .entry)) 0 count) (record { words = now (words .entry); counts = none; moved = 0 })
+        ≡ insertAll (scratchEntries (now (scratch .entry)) 0 count) (record { words = now (words .entry); counts = none; moved = 0 })
         ⌝ }
 {
     let table = CapTable {

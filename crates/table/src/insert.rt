@@ -4,7 +4,7 @@ ghost use Prim.Native.Nat.{_+_, _-_, _*_, _≤_, _<_};
 ghost use lib.ListN.{length};
 ghost use Rattle.base.specs.Below.{one};
 ghost use Rattle.table.specs.Slots.{idOf, isRemoved};
-ghost use Rattle.table.specs.Insert.{crowded as isCrowded, slotsFor, roomFor, emptied, holds, gathered, listed, liveEntries, placeAll, rebuilt, enlarged, placed, insertNew, leaves, Insertable, Placeable};
+ghost use Rattle.table.specs.Insert.{crowded as isCrowded, slotsFor, roomFor, emptied, holds, gathered, scratchEntries, liveEntries, placeAll, rebuilt, enlarged, placed, insertNew, leaves, Insertable, Placeable};
 use super::CapTable;
 use super::CapabilityEntry;
 use super::Inserted;
@@ -89,9 +89,10 @@ pub fn gather(words: &[u64], slots: usize, scratch: &mut [u64; 2048]) -> usize
     count
 }
 
+// The first `count` entries of the scratch are placed one after the other.
 fn place_all(words: &mut [u64], slots: usize, scratch: &[u64; 2048], count: usize)
     requires { ⌜ (0 < slots) × (slots ≤ 512) × (4 * slots ≤ length (now words)) × (count ≤ 512) ⌝ }
-    ensures { λ _. ⌜ now (words .exit) ≡ placeAll (listed (now (scratch .entry)) 0 count) (now (words .entry)) slots ⌝ }
+    ensures { λ _. ⌜ now (words .exit) ≡ placeAll (scratchEntries (now (scratch .entry)) 0 count) (now (words .entry)) slots ⌝ }
 {
     let mut i = 0;
     while i < count {
@@ -152,6 +153,7 @@ fn marks_left(words: &[u64], i: usize, tombstones: usize) -> usize
     tombstones - 1
 }
 
+// The entry goes to the first free slot of its walk; a removed mark there is used up.
 pub fn place(words: &mut [u64], s: Inserted, entry: CapabilityEntry) -> Inserted
     requires { ⌜ Placeable (now words) (s .table) ⌝ }
     ensures { λ r. ⌜ leaves (now (words .exit)) r ≡ placed (leaves (now (words .entry)) s) entry ⌝ }

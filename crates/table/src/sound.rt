@@ -94,7 +94,7 @@ fn one_coded(words: &[u64], i: usize) -> usize
 }
 
 // Whether the kinds are listed ones and agree with the counts. The numbers of the live slots are written one after the other: kinds
-// follow no pattern, and a search in this loop, which would branch by them, would be foretold wrongly every other time.
+// follow no pattern, and a search in this loop, which would branch by them, would be mispredicted every other time.
 fn kinds_sound(words: &[u64], t: CapTable, live: &mut [u16; 512]) -> bool
     requires { ⌜ (t .slots ≤ 512) × (4 * t .slots ≤ length (now words)) ⌝ }
     ensures { λ r. ⌜ r ≡ both (codedTest (now (words .entry)) (t .slots)) (countsTest (now (words .entry)) t) ⌝ }

@@ -112,6 +112,7 @@ pub fn find(words: &[u64], slots: usize, id: u64) -> Search
     }
 }
 
+// The entry of the id, where a search finds it.
 pub fn get(words: &[u64], slots: usize, id: u64) -> Got
     requires { ⌜ (slots ≤ 512) × (4 * slots ≤ length (now words)) ⌝ }
     ensures { λ r. ⌜ r ≡ got (now (words .entry)) slots id ⌝ }
@@ -123,6 +124,7 @@ pub fn get(words: &[u64], slots: usize, id: u64) -> Got
     }
 }
 
+// The first slot that is not live on the walk of the id; where all are live, which no caller lets be, its home.
 pub fn free_for(words: &[u64], slots: usize, id: u64) -> usize
     requires { ⌜ (0 < slots) × (slots ≤ 512) × (4 * slots ≤ length (now words)) ⌝ }
     ensures { λ r. ⌜ (r ≡ freeFor (now (words .entry)) slots id) × (r < slots) ⌝ }

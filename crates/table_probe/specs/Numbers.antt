@@ -35,7 +35,12 @@ abbrev pub leaves : List ℕ → Table → Probed
 leaves ns t = left (t .words) (keeps ns (t .counts) (t .moved))
 
 abbrev pub entryOf : ℕ → ℕ → ℕ → ℕ → CapabilityEntry
-entryOf token object rights uses = record { capability = record { 0 = token }; object = object; rights = record { 0 = rights }; uses = uses }
+entryOf token object rights uses = record {
+  capability = record { 0 = token };
+  object = object;
+  rights = record { 0 = rights };
+  uses = uses;
+}
 
 -- The entry over the four words.
 unfoldable pub entryWords : List ℕ → CapabilityEntry → List ℕ

@@ -5,7 +5,7 @@ ghost use mathlib.Core.Path.{_≡_};
 ghost use Prim.Native.Nat.{_+_, _*_, _<_, _≤_};
 ghost use lib.ListN.{length, getD};
 ghost use Rattle.table.specs.Walk.{search, got};
-ghost use Rattle.table.specs.Insert.{slotsFor, heldAt, Insertable, insertNew, removedAt, liveEntries, gathered, holds, listed, none};
+ghost use Rattle.table.specs.Insert.{slotsFor, heldAt, Insertable, insertNew, removedAt, liveEntries, gathered, holds, scratchEntries, none};
 ghost use Rattle.table.specs.Copy.{nthOf, insertAll};
 ghost use Rattle.table.specs.Sound.{soundTest};
 ghost use Rattle.table_probe.specs.Numbers.{countsOf, keeps, left, leaves, entryOf, entryWords, ended, answers, gotWords, nthWords};
@@ -194,7 +194,7 @@ pub extern "C" fn table_probe_copy_from(
     ensures { λ _. ⌜
         left (now (words .exit)) (now (numbers .exit))
         ≡ leaves (now (numbers .entry))
-        (insertAll (listed (now (scratch .entry)) 0 count) (record { words = now (words .entry); counts = none; moved = 0 }))
+        (insertAll (scratchEntries (now (scratch .entry)) 0 count) (record { words = now (words .entry); counts = none; moved = 0 }))
         ⌝ }
 {
     let s = copy_from(words, scratch, count);

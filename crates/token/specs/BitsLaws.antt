@@ -1,5 +1,4 @@
 -- Laws of `bit`: what the machine's operations do to each bit, and that a number is determined by its bits.
--- Assumes nothing.
 use Prim.Native.Nat.{ℕ, zero, suc, _+_, _-_, _*_, _/_, _%_, _^_, _≤_, _<_, min, max}
 use mathlib.Core.Path.{_≡_, refl, sym, ap, _∙_}
 use native.Mathlib.Nat.{mod-lt, div-eq-of-lt, lt-of-lt-of-le, pow-suc}

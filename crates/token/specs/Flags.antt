@@ -15,22 +15,22 @@ use Rattle.token.specs.declared.flags.Named.the-variants.{Flag}
 use Rattle.token.specs.Bits.{bit}
 
 -- a permission's bit; its number is 2 to that power
-abbrev pub place : CapabilityFlags → ℕ
-place Read = 0
-place Write = 1
-place Execute = 2
-place Grant = 3
+abbrev pub bitOf : CapabilityFlags → ℕ
+bitOf Read = 0
+bitOf Write = 1
+bitOf Execute = 2
+bitOf Grant = 3
 
 abbrev pub hasFlag : ℕ → CapabilityFlags → Bool
-hasFlag flags perm = eqb (bit flags (place perm)) 1
+hasFlag flags perm = eqb (bit flags (bitOf perm)) 1
 
 -- the permission that a number names; any other number is refused
 abbrev pub named : ℕ → Named
 named n =
-    pick (eqb n (2 ^ place Read)) (Flag Read)
-    (pick (eqb n (2 ^ place Write)) (Flag Write)
-    (pick (eqb n (2 ^ place Execute)) (Flag Execute)
-    (pick (eqb n (2 ^ place Grant)) (Flag Grant)
+    pick (eqb n (2 ^ bitOf Read)) (Flag Read)
+    (pick (eqb n (2 ^ bitOf Write)) (Flag Write)
+    (pick (eqb n (2 ^ bitOf Execute)) (Flag Execute)
+    (pick (eqb n (2 ^ bitOf Grant)) (Flag Grant)
     (Named.Refused BadField))))
 
 abbrev pub isFlag : Named → Bool

@@ -1,6 +1,5 @@
 -- What the definitions of Flags.antt mean: a flag says that the rights hold its right, a permission and its number
 -- determine each other, and combined flags are the least that contain each of those given.
--- Assumes nothing.
 use Prim.Native.Nat.{ℕ, _^_, _≤_, _<_, zero-le}
 use mathlib.Core.Bool.{Bool, true, false}
 use mathlib.Core.List.{List, [], _∷_, List·Memᴰ, List·Memᴰ·head, List·Memᴰ·tail}
@@ -17,33 +16,33 @@ use Rattle.token.specs.declared.flags.Named.{Named}
 use Rattle.token.specs.declared.flags.Named.the-variants.{Flag}
 use Rattle.token.specs.Bits.{bit}
 use Rattle.token.specs.BitsLaws.{bit-or, bit-above}
-use Rattle.token.specs.Flags.{place, hasFlag, named, isFlag, allFlags, unionOf}
+use Rattle.token.specs.Flags.{bitOf, hasFlag, named, isFlag, allFlags, unionOf}
 use Rattle.token.specs.Rights.{holds, toFlags}
 use Rattle.token.specs.RightsLaws.{contains-one-right, flags-are-low-four-bits}
 
-pub one-of-four : (perm : CapabilityFlags) → place perm < 4
+pub one-of-four : (perm : CapabilityFlags) → bitOf perm < 4
 one-of-four Read = lit< tt
 one-of-four Write = lit< tt
 one-of-four Execute = lit< tt
 one-of-four Grant = lit< tt
 
-pub flags-say-the-rights : (a : ℕ) (perm : CapabilityFlags) → hasFlag (toFlags a) perm ≡ holds a (2 ^ place perm)
+pub flags-say-the-rights : (a : ℕ) (perm : CapabilityFlags) → hasFlag (toFlags a) perm ≡ holds a (2 ^ bitOf perm)
 flags-say-the-rights a perm =
-    let kept = flags-are-low-four-bits a (place perm) (one-of-four perm) in
-    ap (λ b. eqb b 1) kept ∙ sym (contains-one-right a (place perm))
+    let kept = flags-are-low-four-bits a (bitOf perm) (one-of-four perm) in
+    ap (λ b. eqb b 1) kept ∙ sym (contains-one-right a (bitOf perm))
 
-pub a-number-names-its-permission : (perm : CapabilityFlags) → named (2 ^ place perm) ≡ Flag perm
+pub a-number-names-its-permission : (perm : CapabilityFlags) → named (2 ^ bitOf perm) ≡ Flag perm
 a-number-names-its-permission Read = refl
 a-number-names-its-permission Write = refl
 a-number-names-its-permission Execute = refl
 a-number-names-its-permission Grant = refl
 
-pub named-by-its-number : (n : ℕ) (perm : CapabilityFlags) → named n ≡ Flag perm → n ≡ 2 ^ place perm
+pub named-by-its-number : (n : ℕ) (perm : CapabilityFlags) → named n ≡ Flag perm → n ≡ 2 ^ bitOf perm
 named-by-its-number n perm = go (eqb n 1) (eqb n 2) (eqb n 4) (eqb n 8) refl refl refl refl
   where
     go : (r w x g : Bool) → eqb n 1 ≡ r → eqb n 2 ≡ w → eqb n 4 ≡ x → eqb n 8 ≡ g
         → pick r (Flag Read) (pick w (Flag Write) (pick x (Flag Execute) (pick g (Flag Grant) (Named.Refused BadField)))) ≡ Flag perm
-        → n ≡ 2 ^ place perm
+        → n ≡ 2 ^ bitOf perm
     go true w x g er ew ex eg h = let e : Read ≡ perm = cc in rw (← e) (eqb-true n 1 er)
     go false true x g er ew ex eg h = let e : Write ≡ perm = cc in rw (← e) (eqb-true n 2 ew)
     go false false true g er ew ex eg h = let e : Execute ≡ perm = cc in rw (← e) (eqb-true n 4 ex)

@@ -1,6 +1,5 @@
 -- What the definitions of Rights.antt mean for each right: a right is a number i below 32, and a set of rights has it
 -- where its bit i is 1. By `by-bits` of BitsLaws.antt these laws determine each result.
--- Assumes nothing.
 use Prim.Native.Nat.{ℕ, _-_, _*_, _^_, _≤_, _<_, min, max}
 use mathlib.Core.Bool.{true}
 use mathlib.Core.Logic.{_↔_, by-cases}

@@ -1,6 +1,5 @@
 -- A token and its four fields determine each other: `new` refuses exactly the fields that do not fit, what it packs is
 -- read back, every word is the token of its fields, and tokens with the same fields are the same.
--- Assumes nothing.
 use Prim.Native.Nat.{ℕ, _-_, _^_, _<_}
 use mathlib.Core.Logic.{_⊎_, inl, inr, ⊎-elim, by-cases, _↔_}
 use mathlib.Core.Path.{_≡_, sym, ap, _∙_}

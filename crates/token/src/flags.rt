@@ -2,7 +2,7 @@
 // specs/Flags.antt says what each function computes.
 ghost use mathlib.Core.Path.{_≡_};
 ghost use Prim.Native.Nat.{_^_};
-ghost use Rattle.token.specs.Flags.{place, hasFlag, named, combined};
+ghost use Rattle.token.specs.Flags.{bitOf, hasFlag, named, combined};
 use answers::Answer;
 
 pub enum CapabilityFlags {
@@ -26,7 +26,7 @@ pub enum Combined {
 
 impl CapabilityFlags {
     pub fn number(self) -> u8
-        ensures { λ r. ⌜ r ≡ 2 ^ place self ⌝ }
+        ensures { λ r. ⌜ r ≡ 2 ^ bitOf self ⌝ }
     {
         self as u8
     }

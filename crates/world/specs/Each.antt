@@ -38,7 +38,8 @@ module _ (d : Numbers) (R : ℕ → Region) (f : ℕ → List ℕ → List ℕ) 
       let c = last n ch e in
       length-kept d (R n) (f n) (onEach d R f n mem) c ∙ e
 
-  pub each-other : (r : Region) → Valid d r → (n : ℕ) → Changes d R f n → ((k : ℕ) → k < n → same (R k) r ≡ false) → view d r (onEach d R f n mem) ≡ view d r mem
+  pub each-other : (r : Region) → Valid d r → (n : ℕ) → Changes d R f n → ((k : ℕ) → k < n → same (R k) r ≡ false)
+      → view d r (onEach d R f n mem) ≡ view d r mem
   unfolding onEach
   each-other r v zero ch none = refl
   each-other r v (suc n) ch none =
@@ -73,9 +74,11 @@ pub each-none : (d : Numbers) (R : ℕ → Region) (f : ℕ → List ℕ → Lis
 unfolding onEach
 each-none d R f mem = refl
 
-pub each-more : (d : Numbers) (R : ℕ → Region) (f : ℕ → List ℕ → List ℕ) (n : ℕ) (mem₀ mem next : List ℕ) → mem ≡ onEach d R f n mem₀ → next ≡ onRegion d (R n) (f n) mem → next ≡ onEach d R f (n + 1) mem₀
+pub each-more : (d : Numbers) (R : ℕ → Region) (f : ℕ → List ℕ → List ℕ) (n : ℕ) (mem₀ mem next : List ℕ) → mem ≡ onEach d R f n mem₀
+    → next ≡ onRegion d (R n) (f n) mem → next ≡ onEach d R f (n + 1) mem₀
 unfolding onEach
 each-more d R f n mem₀ mem next e h = h ∙ rw (add-one, e)
 
-pub each-done : (d : Numbers) (R : ℕ → Region) (f : ℕ → List ℕ → List ℕ) (i n : ℕ) (mem₀ mem : List ℕ) → mem ≡ onEach d R f i mem₀ → i ≤ n → n ≤ i → mem ≡ onEach d R f n mem₀
+pub each-done : (d : Numbers) (R : ℕ → Region) (f : ℕ → List ℕ → List ℕ) (i n : ℕ) (mem₀ mem : List ℕ) → mem ≡ onEach d R f i mem₀ → i ≤ n
+    → n ≤ i → mem ≡ onEach d R f n mem₀
 each-done d R f i n mem₀ mem e l m = e ∙ ap (λ k. onEach d R f k mem₀) (le-antisymm l m)

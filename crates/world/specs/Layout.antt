@@ -145,7 +145,8 @@ module _ (d : Numbers) where
   earlier-part : (r r′ : Region) → band r ≡ band r′ → index r < index r′ → startOf d r + sizeOf d r ≤ startOf d r′
   earlier-part r r′ e l = rw (start-is r, size-is, start-is r′, e) (omega (arith, room (index r) (index r′) (words d (band r′)) l))
 
-  pub apart : (r r′ : Region) → Valid d r → Valid d r′ → same r r′ ≡ false → (startOf d r + sizeOf d r ≤ startOf d r′) ⊎ (startOf d r′ + sizeOf d r′ ≤ startOf d r)
+  pub apart : (r r′ : Region) → Valid d r → Valid d r′ → same r r′ ≡ false
+      → (startOf d r + sizeOf d r ≤ startOf d r′) ⊎ (startOf d r′ + sizeOf d r′ ≤ startOf d r)
   apart r r′ v v′ differ =
       by-cases (decLt (band r) (band r′)) (λ l. inl (earlier-band r r′ v l)) (λ n.
       by-cases (decLt (band r′) (band r)) (λ l. inr (earlier-band r′ r v′ l)) (λ n′.

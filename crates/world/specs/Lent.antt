@@ -26,5 +26,6 @@ module _ (d : Numbers) (mem : List ℕ) where
   unfolding rules.queuesTest queuesTest
   queues-passed =
       ap₂ both
-      (all-ext (d .queues) (λ q. rules.queueTest (queueAt queues q)) (λ q. rules.queueTest (view d (queue q) mem)) (λ q l. rw (queue-is q l)))
+      (all-ext (d .queues) (λ q. rules.queueTest (queueAt queues q)) (λ q. rules.queueTest (view d (queue q) mem))
+      (λ q l. rw (queue-is q l)))
       (all-ext (d .queues) _ _ (λ j l. all-ext j _ _ (λ i u. rw (queue-is i (omega arith), queue-is j l))))

@@ -16,7 +16,7 @@ use Rattle.base.specs.Below.{all, sum, one}
 use Rattle.base.specs.Choose.{pick, both, both-left, both-right, both-true, both-false, refuted}
 use Rattle.base.specs.Distinct.{allDifferent}
 use Rattle.base.specs.Exactly.{same-test}
-use Rattle.base.specs.Listed.{fold, passing, listed, length-listed, listed-fold}
+use Rattle.base.specs.Compacted.{fold, passing, compacted, length-compacted, compacted-fold}
 use Rattle.base.specs.SumLaws.{sum-const-zero}
 use Rattle.table.specs.Slots.{isLive, idAt}
 use Rattle.table.specs.Sound.{Capacity, no-slots, some-slots}
@@ -46,18 +46,18 @@ liveBelow ws n = passing (isLive ws) n
 
 -- The ids of the live ones of the first n slots, over what stood there.
 unfoldable pub liveIds : List ℕ → ℕ → List ℕ → List ℕ
-liveIds ws n xs = listed (idAt ws) (isLive ws) n xs
+liveIds ws n xs = compacted (idAt ws) (isLive ws) n xs
 
 pub length-live : (ws : List ℕ) (n : ℕ) (xs : List ℕ) → length (liveIds ws n xs) ≡ length xs
 unfolding liveIds
-length-live ws n xs = length-listed (idAt ws) (isLive ws) n xs
+length-live ws n xs = length-compacted (idAt ws) (isLive ws) n xs
 
 -- An entry of each of these ids is what the slots count.
 pub live-counted :
     (ids ws : List ℕ) (n : ℕ) (xs counts : List ℕ) → n ≤ length xs
     → countEntries ids (liveIds ws n xs) (liveBelow ws n) counts ≡ countSlots ids ws n counts
 unfolding countEntries countSlots countSlot liveIds
-live-counted ids ws n xs counts room = listed-fold (countEntry ids) counts (idAt ws) (isLive ws) n xs room
+live-counted ids ws n xs counts room = compacted-fold (countEntry ids) counts (idAt ws) (isLive ws) n xs room
 
 -- ---- no counter goes up by more than the slots
 
@@ -75,7 +75,8 @@ few-slot e ids ws i counts few = go (isLive ws i)
 few-slots : (e : ℕ) (ids ws : List ℕ) (n : ℕ) (counts : List ℕ) → AtMost e counts → AtMost (e + n) (countSlots ids ws n counts)
 unfolding countSlots fold
 few-slots e ids ws zero counts few = few-more e (e + 0) counts few (omega arith)
-few-slots e ids ws (suc n) counts few = rw add-suc (few-slot (e + n) ids ws n (countSlots ids ws n counts) (few-slots e ids ws n counts few))
+few-slots e ids ws (suc n) counts few = rw add-suc
+    (few-slot (e + n) ids ws n (countSlots ids ws n counts) (few-slots e ids ws n counts few))
 
 length-slot : (ids ws : List ℕ) (i : ℕ) (counts : List ℕ) → length (countSlot ids ws i counts) ≡ length counts
 unfolding countSlot
@@ -110,7 +111,8 @@ slot-counts :
 unfolding countSlot
 slot-counts ids ws i counts k different long inside = go (isLive ws i)
   where
-    go : (live : Bool) → getD (pick live (countEntry ids (idAt ws i) counts) counts) k 0 ≡ getD counts k 0 + one (both live (eqb (idAt ws i) (getD ids k 0)))
+    go : (live : Bool) → getD (pick live (countEntry ids (idAt ws i) counts) counts) k 0
+        ≡ getD counts k 0 + one (both live (eqb (idAt ws i) (getD ids k 0)))
     go true = rw eqb-swap (entry-counted ids (idAt ws i) counts k different long inside)
     go false = rw add-zero
 
@@ -200,8 +202,10 @@ module _ (d : Numbers) (mem ids : List ℕ) where
       let sp = view d (space s) mem in
       record {
         sound = all-more s (λ s. spaceTest (d .most) (view d (space s) mem)) (looked .sound) (space-exactly (d .most) sp .1 sound);
-        tally = rw add-one (tally-space ids (λ id. sum (λ s. one (hasEntry (view d (space s) mem) id)) s) (d .most) sp counts sound (looked .tally));
-        few = few-more (s * 512 + tableOf sp .slots) ((s + 1) * 512) _ (few-slots (s * 512) ids (slotWords sp) (tableOf sp .slots) counts (looked .few)) (omega arith);
+        tally = rw add-one (tally-space ids (λ id. sum (λ s. one (hasEntry (view d (space s) mem) id)) s) (d .most) sp counts sound
+            (looked .tally));
+        few = few-more (s * 512 + tableOf sp .slots) ((s + 1) * 512) _
+            (few-slots (s * 512) ids (slotWords sp) (tableOf sp .slots) counts (looked .few)) (omega arith);
       }
 
 -- The holders held against the counts.

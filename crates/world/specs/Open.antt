@@ -95,9 +95,12 @@ module _ (d : Numbers) (quotas mem : List ℕ) where
   pub opening-26 : recordTest d quotas ≡ true → length mem < lengthFor d → opening d quotas mem ≡ record { answer = BadWorld; memory = mem }
   unfolding opening
   opening-26 h l =
-      when-no (not (recordTest d quotas)) _ _ (ap not h) ∙ when-yes (not (leb (lengthFor d) (length mem))) _ _ (ap not (lt-leb (lengthFor d) (length mem) l))
+      when-no (not (recordTest d quotas)) _ _ (ap not h)
+      ∙ when-yes (not (leb (lengthFor d) (length mem))) _ _ (ap not (lt-leb (lengthFor d) (length mem) l))
 
-  pub opening-0 : recordTest d quotas ≡ true → lengthFor d ≤ length mem → opening d quotas mem ≡ record { answer = Done; memory = opened d quotas mem }
+  pub opening-0 : recordTest d quotas ≡ true → lengthFor d ≤ length mem
+      → opening d quotas mem ≡ record { answer = Done; memory = opened d quotas mem }
   unfolding opening
   opening-0 h l =
-      when-no (not (recordTest d quotas)) _ _ (ap not h) ∙ when-no (not (leb (lengthFor d) (length mem))) _ _ (ap not (le-leb (lengthFor d) (length mem) l))
+      when-no (not (recordTest d quotas)) _ _ (ap not h)
+      ∙ when-no (not (leb (lengthFor d) (length mem))) _ _ (ap not (le-leb (lengthFor d) (length mem) l))

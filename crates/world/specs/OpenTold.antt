@@ -1,5 +1,5 @@
--- When each answer of an opening is given: 21 exactly for a record that is not good, 26 exactly for a good one and a short length, 0 exactly
--- in the rest. And a refused opening changes nothing.
+-- When each answer of an opening is given: 21 exactly for a record that is not good, 26 exactly for a good one and a short length, 0
+-- exactly in the rest. And a refused opening changes nothing.
 use mathlib.Core.Bool.{Bool, true, false, true≢false}
 use mathlib.Core.List.{List}
 use mathlib.Core.Logic.{_↔_, _≢_, by-cases}
@@ -27,7 +27,8 @@ module _ (d : Numbers) (quotas mem : List ℕ) where
       go true is =
           by-cases (decLt (length mem) (lengthFor d))
           (λ under. subst P (sym (opening-26 d quotas mem is under)) (short (good d quotas is) under))
-          (λ over. let fits : lengthFor d ≤ length mem = omega arith in subst P (sym (opening-0 d quotas mem is fits)) (long (good d quotas is) fits))
+          (λ over. let fits : lengthFor d ≤ length mem = omega arith in subst P (sym (opening-0 d quotas mem is fits))
+          (long (good d quotas is) fits))
       go false is = subst P (sym (opening-21 d quotas mem is)) (bad (λ ok. true≢false (sym (good-test d quotas ok) ∙ is)))
 
   pub open-told-21 : (opening d quotas mem .answer ≡ BadField) ↔ (¬ Good d quotas)

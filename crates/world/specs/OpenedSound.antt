@@ -58,7 +58,8 @@ module _ (d : Numbers) (quotas mem : List ℕ) (long : lengthFor d ≤ length me
         long-enough = rw opened-length long;
         registered-fit = omega arith;
         logged-fit = omega arith;
-        spaces = λ s l. rw (opened-view d quotas mem long (space s) l) (empty-space (d .most) (getD quotas s 0) (view d (space s) mem) (ok .quota s l));
+        spaces = λ s l. rw (opened-view d quotas mem long (space s) l)
+            (empty-space (d .most) (getD quotas s 0) (view d (space s) mem) (ok .quota s l));
         held = λ k l. absurd (omega arith);
         ids-differ = λ j l. absurd (omega arith);
         ids-issued = λ k l. absurd (omega arith);
@@ -69,7 +70,7 @@ module _ (d : Numbers) (quotas mem : List ℕ) (long : lengthFor d ≤ length me
         recycled-issued = λ k l. absurd (omega arith);
         recycled-fit = omega arith;
         linked = λ k l. absurd (omega arith);
-        listed = λ k l. absurd (omega arith);
+        has-list = λ k l. absurd (omega arith);
         short = λ p l. absurd (omega arith);
         cascaded = λ k l. absurd (omega arith);
         pairs-coded = λ k l. absurd (omega arith);

@@ -11,7 +11,7 @@ use Rattle.table.specs.Slots.{isLive, idAt}
 use Rattle.space.specs.Words.{tableOf, slotWords}
 use Rattle.space.specs.Sound.{SoundSpace, spaceTest}
 use Rattle.registry.specs.Words as reg
-use Rattle.registry.specs.Sound.{Held, heldTest, Issued, Ascend, Unregistered, Linked, Listed, Short, Cascaded, registryTest}
+use Rattle.registry.specs.Sound.{Held, heldTest, Issued, Ascend, Unregistered, Linked, ParentHasList, Short, Cascaded, registryTest}
 use Rattle.revocation.specs.Words.{pairAt, pidOf, lengthOf}
 use Rattle.revocation.specs.Sound.{Pairs, logTest, SoundQueue, queueTest, PidsDiffer, pidsDifferTest}
 use Rattle.world.specs.Numbers.{numbersOf, nextOf, registeredOf, recycledOf, loggedOf, InRange, inRangeTest}
@@ -80,7 +80,7 @@ pub record SoundAt (d : Numbers) (mem : List ℕ) : Type 0 where
   -- Each derivation parent and child is registered, a child stands once in one list, lists hold at most 1,024, parent links end, a
   -- revoked parent's children are revoked.
   pub linked : Linked (registeredOf mem) (links d mem)
-  pub listed : Listed (registeredOf mem) (links d mem) (states d mem)
+  pub has-list : ParentHasList (registeredOf mem) (links d mem) (states d mem)
   pub short : Short (registeredOf mem) (links d mem)
   pub cascaded : Cascaded (registeredOf mem) (links d mem) (states d mem)
   -- Log pairs differ, and are coded.

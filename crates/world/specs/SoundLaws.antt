@@ -8,7 +8,7 @@ use lib.ListN.{length}
 use Rattle.base.specs.Distinct.{differ-exactly}
 use Rattle.base.specs.Exactly.{both-exactly, leb-exactly, all-exactly}
 use Rattle.registry.specs.Sound.{registryTest}
-use Rattle.registry.specs.SoundLaws.{issued-exactly, ascend-exactly, unregistered-exactly, linked-exactly, listed-exactly, short-exactly, cascaded-exactly, held-exactly}
+use Rattle.registry.specs.SoundLaws.{issued-exactly, ascend-exactly, unregistered-exactly, linked-exactly, has-list-exactly, short-exactly, cascaded-exactly, held-exactly}
 use Rattle.revocation.specs.Sound.{logTest, SoundQueue, PidsDiffer}
 use Rattle.revocation.specs.SoundLaws.{pairs-exactly, queue-exactly, pids-exactly}
 use Rattle.space.specs.Sound.{SoundSpace}
@@ -48,11 +48,14 @@ head-exactly d mem =
       λ h. (h .in-range, (h .long-enough, (h .registered-fit, (h .logged-fit, (h .next-low, (h .next-high, h .recycled-fit)))))),
     )
 
-pub spaces-exactly : (d : Numbers) (mem : List ℕ) → (spacesTest d mem ≡ true) ↔ ((s : ℕ) → s < d .spaces → SoundSpace (d .most) (view d (space s) mem))
+pub spaces-exactly : (d : Numbers) (mem : List ℕ) → (spacesTest d mem ≡ true)
+    ↔ ((s : ℕ) → s < d .spaces → SoundSpace (d .most) (view d (space s) mem))
 unfolding spacesTest
 spaces-exactly d mem = simp (all-exactly, space-exactly) Iff·rfl
 
-pub queues-exactly : (d : Numbers) (mem : List ℕ) → (queuesTest d mem ≡ true) ↔ (((q : ℕ) → q < d .queues → 0 < lengths d mem q → SoundQueue (view d (queue q) mem)) × PidsDiffer (d .queues) (pids d mem) (lengths d mem))
+pub queues-exactly : (d : Numbers) (mem : List ℕ) → (queuesTest d mem ≡ true)
+    ↔ (((q : ℕ) → q < d .queues → 0 < lengths d mem q → SoundQueue (view d (queue q) mem))
+    × PidsDiffer (d .queues) (pids d mem) (lengths d mem))
 unfolding queuesTest
 queues-exactly d mem = simp (both-exactly, pids-exactly (d .queues) (pids d mem) (lengths d mem), all-exactly, queue-exactly) Iff·rfl
 
@@ -73,14 +76,20 @@ sound-exactly mem =
       unregistered-exactly m (recycled d mem) n (ids d mem),
       issued-exactly m (recycled d mem) (nextOf mem),
       linked-exactly n (links d mem),
-      listed-exactly n (links d mem) (states d mem),
+      has-list-exactly n (links d mem) (states d mem),
       short-exactly n (links d mem),
       cascaded-exactly n (links d mem) (states d mem),
       pairs-exactly (loggedOf mem) (logPairs d mem),
       differ-exactly (loggedOf mem) (logPairs d mem),
       queues-exactly d mem,
     ) (
-      λ (h, (((differ, (issued, (ascend, (unregistered, (freed, (linked, (listed, (short, cascaded)))))))), (spaces, held)), ((coded, pairs), (queues, pids)))).
+      λ (
+        h,
+        (
+          ((differ, (issued, (ascend, (unregistered, (freed, (linked, (has-list, (short, cascaded)))))))), (spaces, held)),
+          ((coded, pairs), (queues, pids)),
+        ),
+      ).
           record {
             in-range = h .in-range;
             long-enough = h .long-enough;
@@ -97,7 +106,7 @@ sound-exactly mem =
             recycled-issued = freed;
             recycled-fit = h .recycled-fit;
             linked = linked;
-            listed = listed;
+            has-list = has-list;
             short = short;
             cascaded = cascaded;
             pairs-coded = coded;
@@ -123,7 +132,7 @@ sound-exactly mem =
                 s .ids-issued,
                 (
                   s .recycled-ascend,
-                  (s .recycled-unregistered, (s .recycled-issued, (s .linked, (s .listed, (s .short, s .cascaded))))),
+                  (s .recycled-unregistered, (s .recycled-issued, (s .linked, (s .has-list, (s .short, s .cascaded))))),
                 ),
               ),
             ),

@@ -33,7 +33,8 @@ module _ (d : Numbers) (r : Region) (mem : List ℕ) where
   lent-view a e at w = rw (← w, add-sub-cancel-left, at)
 
   -- and what it leaves.
-  pub lent-region : (a e : ℕ) (f : List ℕ → List ℕ) (ws : List ℕ) → a ≡ startOf d r → a + sizeOf d r ≡ e → ws ≡ f (take (e - a) (drop a mem)) → take a mem ++ (ws ++ drop (e - a) (drop a mem)) ≡ onRegion d r f mem
+  pub lent-region : (a e : ℕ) (f : List ℕ → List ℕ) (ws : List ℕ) → a ≡ startOf d r → a + sizeOf d r ≡ e
+      → ws ≡ f (take (e - a) (drop a mem)) → take a mem ++ (ws ++ drop (e - a) (drop a mem)) ≡ onRegion d r f mem
   lent-region a e f ws at w h = part.lent a (sizeOf d r) e f mem ws w h ∙ ap (λ b. part.onPart b (sizeOf d r) f mem) at
 
 -- How many words the registry and a queue have.
@@ -61,7 +62,8 @@ pub record Change (d : Numbers) (r : Region) (f : List ℕ → List ℕ) (mem : 
   pub kept : length (f (view d r mem)) ≡ length (view d r mem)
 
 -- A word set is such a change.
-pub set-changes : (d : Numbers) (r : Region) (mem : List ℕ) (i v : ℕ) → Valid d r → lengthFor d ≤ length mem → Change d r (λ ws. set ws i v) mem
+pub set-changes : (d : Numbers) (r : Region) (mem : List ℕ) (i v : ℕ) → Valid d r → lengthFor d ≤ length mem
+    → Change d r (λ ws. set ws i v) mem
 set-changes d r mem i v valid long = record { valid = valid; long = long; kept = length-set (view d r mem) i v }
 
 -- It lies within the memory.

@@ -75,7 +75,7 @@ fn one_live(words: &[u64], i: usize) -> usize
 }
 
 // Writes the ids of the live slots one after the other, and answers how many they are. Every slot's id is written, over the one before
-// it unless that was live: a branch by the kind, which follows no pattern, would be foretold wrongly every other time.
+// it unless that was live: a branch by the kind, which follows no pattern, would be mispredicted every other time.
 fn live_ids(words: &[u64], slots: usize, ids: &mut [u64; 512]) -> usize
     requires { ⌜ (slots ≤ 512) × (4 * slots ≤ length (now words)) ⌝ }
     ensures { λ r. ⌜ (r ≡ liveBelow (now (words .entry)) slots) × (r ≤ slots) ⌝ }

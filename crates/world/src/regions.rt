@@ -13,11 +13,7 @@ pub fn width(d: Numbers) -> usize
     requires { ⌜ InRange d ⌝ }
     ensures { λ r. ⌜ r ≡ widthOf d ⌝ }
 {
-    let slots = base::arith::next_power_of_two(2 * d.most as u64) as usize;
-    if slots < 8 {
-        return 8 + 4 * 8;
-    }
-    8 + 4 * slots
+    8 + 4 * table::slots_for(d.most)
 }
 
 // The words that the memory needs.

@@ -30,13 +30,13 @@ module _ (mem : List ℕ) (sound : Sound mem) where
 
   read-fine : (call : Reading) → answerOf (read call mem) ≢ BadWorld
   unfolding read
-  read-fine (space-used s) = fine s _ (space.facts-told mem s)
-  read-fine (space-quota s) = fine s _ (space.facts-told mem s)
-  read-fine (space-table-capacity s) = fine s _ (space.facts-told mem s)
-  read-fine (space-generation s) = fine s _ (space.facts-told mem s)
-  read-fine (space-stats s) = fine s _ (space.facts-told mem s)
-  read-fine (space-get-entry s id) = fine s _ (space.get-entry-told mem s id)
-  read-fine (space-nth-entry s n) = fine s _ (space.nth-entry-told mem s n)
+  read-fine (space-used s) = fine s _ (space.facts-entered mem s)
+  read-fine (space-quota s) = fine s _ (space.facts-entered mem s)
+  read-fine (space-table-capacity s) = fine s _ (space.facts-entered mem s)
+  read-fine (space-generation s) = fine s _ (space.facts-entered mem s)
+  read-fine (space-stats s) = fine s _ (space.facts-entered mem s)
+  read-fine (space-get-entry s id) = fine s _ (space.get-entry-entered mem s id)
+  read-fine (space-nth-entry s n) = fine s _ (space.nth-entry-entered mem s n)
   read-fine (is-valid token) = sure _ (manager.is-valid-entered mem token)
   read-fine manager-stats = sure _ (manager.stats-entered mem)
   read-fine (get-children id area) = sure _ (manager.children-entered mem id area)
@@ -51,23 +51,23 @@ module _ (mem : List ℕ) (sound : Sound mem) where
 
   accept-fine : (call : Accepting) → accept call mem .reply .answer ≢ BadWorld
   unfolding accept
-  accept-fine (space-insert s token object rights fits) = fine s _ (space.insert-told mem s token object rights)
-  accept-fine (space-copy target source) = sure _ (space.copy-told mem target source .0)
-  accept-fine (space-create s rights object fits) = fine s _ (space.create-told mem s rights object)
+  accept-fine (space-insert s token object rights fits) = fine s _ (space.insert-entered mem s token object rights)
+  accept-fine (space-copy target source) = sure _ (space.copy-entered mem target source .0)
+  accept-fine (space-create s rights object fits) = fine s _ (space.create-entered mem s rights object)
   accept-fine (create s object valid cap-type rights fits) = fine s _ (create-entered mem s object valid cap-type rights)
   accept-fine (delegate token source target rights fits) = sure _ (delegate-told-26 mem token source target rights)
 
   change-fine : (call : Changing) → answerOf (change call mem .reply) ≢ BadWorld
   unfolding change
-  change-fine (space-lookup s token) = fine s _ (space.lookup-told mem s token)
-  change-fine (space-lookup-entry s token) = fine s _ (space.lookup-entry-told mem s token)
-  change-fine (space-check-rights s token required) = fine s _ (space.check-rights-told mem s token required)
-  change-fine (space-remove s token) = fine s _ (space.remove-told mem s token)
-  change-fine (space-increment-generation s) = fine s _ (space.increment-told mem s)
-  change-fine (space-clear s) = fine s _ (space.clear-told mem s)
-  change-fine (space-revoke-all s) = fine s _ (space.revoke-all-told mem s)
-  change-fine (space-revoke s id) = fine s _ (space.revoke-told mem s id)
-  change-fine alloc-cap-id = sure _ (space.alloc-told mem)
+  change-fine (space-lookup s token) = fine s _ (space.lookup-entered mem s token)
+  change-fine (space-lookup-entry s token) = fine s _ (space.lookup-entry-entered mem s token)
+  change-fine (space-check-rights s token required) = fine s _ (space.check-rights-entered mem s token required)
+  change-fine (space-remove s token) = fine s _ (space.remove-entered mem s token)
+  change-fine (space-increment-generation s) = fine s _ (space.increment-entered mem s)
+  change-fine (space-clear s) = fine s _ (space.clear-entered mem s)
+  change-fine (space-revoke-all s) = fine s _ (space.revoke-all-entered mem s)
+  change-fine (space-revoke s id) = fine s _ (space.revoke-entered mem s id)
+  change-fine alloc-cap-id = sure _ (space.alloc-entered mem)
   change-fine (delete token) = sure _ (manager.delete-entered mem token)
   change-fine (check token required s) = fine s _ (manager.check-entered mem token required s)
   change-fine (revoke token time listed) = sure _ (revocation.revoke-entered mem time listed token)

@@ -13,7 +13,7 @@ use Rattle.base.specs.Below.{one}
 use Rattle.delegation_calls.proofs.Offering.{offered-by-lookups}
 use Rattle.delegation_calls.specs.Delegation.{delegateOut}
 use Rattle.manager_laws.proofs.laws.Delegated as delegate
-use Rattle.manager_laws.proofs.laws.Recording.{listed, recording}
+use Rattle.manager_laws.proofs.laws.Recording.{withList, recording}
 use Rattle.manager_laws.proofs.laws.Roomed.{parentIn, roomed, roomed-by-cases}
 use Rattle.manager_laws.proofs.laws.StepsKept.{parent-registered, registered-kept}
 use Rattle.manager_laws.proofs.laws.Unchanged.{delegate-undone}
@@ -135,7 +135,7 @@ module _ (mem : List ℕ) (s : ℕ) (inside : s < numbersOf mem .spaces) (token 
       abbrev child : CapabilityEntry
       child = delegate.childEntry mem token source target rights t
 
-      listed-along : From (listed mem token source target rights g)
+      listed-along : From (withList mem token source target rights g)
       listed-along =
           let came = taken (t .asked .granted) in
           let below : parent < d .places = omega (arith, g .inside) in

@@ -14,6 +14,7 @@ use Rattle.space_laws.proofs.laws.Elsewhere as space
 use Rattle.token.specs.Token.{idOf}
 use Rattle.world.specs.Numbers.{numbersOf}
 use Rattle.world.specs.Sound.{Sound}
+use Rattle.world.specs.declared.Numbers.{Numbers}
 use Rattle.history.specs.Call.{Accepting, Changing, Call, open-world, reads, accepts, changes}
 use Rattle.history.specs.Call.{space-insert, space-copy, space-create, create, delegate}
 use Rattle.history.specs.Call.{space-lookup, space-lookup-entry, space-check-rights, space-remove, space-increment-generation, space-clear, space-revoke-all, space-revoke, alloc-cap-id, delete, check, revoke, revoke-capability, revoke-held, revoke-batch, notify-process, drain-notifications, cleanup-process-notifications}
@@ -35,6 +36,9 @@ NeverGivenBack x [] mem = Unit {0}
 NeverGivenBack x (call ∷ later) mem = NotGivenBack x call mem × NeverGivenBack x later (perform call mem .memory)
 
 module _ (mem : List ℕ) (sound : Sound mem) (x : ℕ) (spent : Spent mem x) where
+  abbrev d : Numbers
+  d = numbersOf mem
+
   accept-frees-none : (call : Accepting) → NoneFreed (numbersOf mem) mem (accept call mem .memory)
   unfolding accept
   accept-frees-none (space-insert s token object rights fits) = space-frees-none mem s _ (space.insert-only mem s token object rights fits)

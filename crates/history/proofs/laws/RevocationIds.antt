@@ -17,7 +17,7 @@ use Rattle.revocation_steps.proofs.laws.Revoked.{revoke-step-recycled}
 use Rattle.revocation_steps.proofs.laws.SameHoldings.{SameHoldings}
 use Rattle.steps.specs.Steps.{addStep}
 use Rattle.steps.proofs.laws.RegistrySteps.{add-step}
-use Rattle.world.specs.Numbers.{registeredOf}
+use Rattle.world.specs.Numbers.{registeredOf, epochWord}
 use Rattle.world.specs.Regions.{lengthFor}
 use Rattle.world.specs.Sound.{SoundAt}
 use Rattle.world.specs.declared.Numbers.{Numbers}
@@ -40,12 +40,12 @@ module _ (d : Numbers) (mem : List ℕ) (sound : SoundAt d mem) where
   }
 
   -- A pair joins the log, and the epoch counts it.
-  joined-ids : (token : ℕ) → pairsWith d mem token ≤ d .pairs → SameIds d mem (addStep 6 1 (logStep d (newPair d mem token) mem))
+  joined-ids : (token : ℕ) → pairsWith d mem token ≤ d .pairs → SameIds d mem (addStep epochWord 1 (logStep d (newPair d mem token) mem))
   joined-ids token fits =
       let pairs : List ℕ = newPair d mem token in
       let same = log-step-holdings d mem (sound .long-enough) pairs fits in
       let long : lengthFor d ≤ length (logStep d pairs mem) = omega (arith, same .same-length, sound .long-enough) in
-      let counted = add-step d (logStep d pairs mem) long 6 1 (omega arith) (omega arith) in
+      let counted = add-step d (logStep d pairs mem) long epochWord 1 (omega arith) (omega arith) in
       ids-trans d mem (logStep d pairs mem) _ (holdings-ids d mem _ same) (record {
         same-next = counted .same-word 5 (omega arith) (omega arith);
         same-count = counted .same-word 12 (omega arith) (omega arith);

@@ -13,6 +13,7 @@ use Rattle.revocation_steps.proofs.laws.LogSteps.{log-step-holdings}
 use Rattle.revocation_steps.proofs.laws.QueueSteps.{notify-step, free-step}
 use Rattle.steps.specs.Steps.{addStep}
 use Rattle.steps.proofs.laws.Kept.{set-view}
+use Rattle.world.specs.Numbers.{epochWord}
 use Rattle.world.specs.Regions.{space, lengthFor}
 use Rattle.world.specs.Sound.{SoundAt}
 use Rattle.world.specs.declared.Numbers.{Numbers}
@@ -22,13 +23,13 @@ module _ (d : Numbers) (s : ℕ) (inside : s < d .spaces) where
   -- A pair joins the log, and the epoch counts it.
   joined-quiet :
       (mem : List ℕ) → SoundAt d mem → (token : ℕ) → pairsWith d mem token ≤ d .pairs
-      → Quiet d s mem (addStep 6 1 (logStep d (newPair d mem token) mem))
+      → Quiet d s mem (addStep epochWord 1 (logStep d (newPair d mem token) mem))
   unfolding addStep
   joined-quiet mem sound token fits =
       let pairs : List ℕ = newPair d mem token in
       let same = log-step-holdings d mem (sound .long-enough) pairs fits in
       let long : lengthFor d ≤ length (logStep d pairs mem) = omega (arith, same .same-length, sound .long-enough) in
-      quiet-same d s mem _ (set-view d _ long 6 _ (omega arith) (space s) inside refl ∙ same .same-space s inside)
+      quiet-same d s mem _ (set-view d _ long epochWord _ (omega arith) (space s) inside refl ∙ same .same-space s inside)
 
   pub quiet-steady : Steady d (λ mem after. Quiet d s mem after)
   quiet-steady = record {

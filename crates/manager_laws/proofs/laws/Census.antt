@@ -17,7 +17,7 @@ use Rattle.base.specs.SumLaws.{sum-zero, sum-ext}
 use Rattle.registry.specs.Children.{parents, edges, strays}
 use Rattle.registry.specs.Holders.{placeOf}
 use Rattle.registry.specs.RegisteringLaws.{registered-among}
-use Rattle.registry.specs.Words.{listed}
+use Rattle.registry.specs.Words.{hasList}
 use Rattle.space.specs.Ids.{idsOf, entryIds}
 use Rattle.space.specs.Words.{tableOf, slotWords}
 use Rattle.steps.specs.Replies.{refusal}
@@ -140,15 +140,15 @@ module _ (mem : List ℕ) (sound : Sound mem) where
   bit-one (suc (suc b)) l = absurd (omega arith)
 
   -- The registered ids that have a list of children, which may be empty.
-  pub parents-counted : Counts (registeredOf mem) (λ k. listed (states (numbersOf mem) mem k) ≡ 1) (treeStatsOut mem .parents)
+  pub parents-counted : Counts (registeredOf mem) (λ k. hasList (states (numbersOf mem) mem k) ≡ 1) (treeStatsOut mem .parents)
   unfolding treeStatsOut parents
   parents-counted = record {
-    test = λ k. eqb (listed (states d mem k)) 1;
-    exactly = λ k l. eqb-exactly (listed (states d mem k)) 1;
+    test = λ k. eqb (hasList (states d mem k)) 1;
+    exactly = λ k l. eqb-exactly (hasList (states d mem k)) 1;
     number =
         ap (λ (r : TreeReply). r .parents) (world-called _ mem _ sound)
-        ∙ sum-ext _ (λ k. one (eqb (listed (states d mem k)) 1)) (registeredOf mem)
-        (λ k l. bit-one (listed (states d mem k)) (omega arith));
+        ∙ sum-ext _ (λ k. one (eqb (hasList (states d mem k)) 1)) (registeredOf mem)
+        (λ k l. bit-one (hasList (states d mem k)) (omega arith));
   }
 
   -- The registered ids that are children of a registered one.

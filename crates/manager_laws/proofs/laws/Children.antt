@@ -16,7 +16,7 @@ use Rattle.registry.specs.Children.{childPlaces, idsAt, childIds}
 use Rattle.registry.specs.ChildrenLaws.{Sisters, child-places-exactly, ids-at-length, ids-at, child-ids-length}
 use Rattle.registry.specs.HoldersLaws.{place-holds, place-is}
 use Rattle.registry.specs.Words.{idAt}
-use Rattle.steps.specs.Replies.{Listed}
+use Rattle.steps.specs.Replies.{WithArea}
 use Rattle.steps.specs.Steps.{placeIn, ChildOf, childrenOf}
 use Rattle.steps.proofs.laws.Cases.{when-by-cases}
 use Rattle.steps.proofs.laws.Entered.{world-by-cases}
@@ -99,7 +99,7 @@ children-listed mem id area =
     p : ℕ
     p = placeIn d mem id
 
-    Lists : Listed → Type 0
+    Lists : WithArea → Type 0
     Lists l =
         l .reply .answer ≡ Done
         → (xs : List ℕ) × (ChildrenOf (numbersOf mem) mem id xs × ((l .area ≡ written xs area) × (l .reply .value ≡ length xs)))

@@ -30,7 +30,7 @@ use Rattle.manager_calls.specs.Tokens.{tokenOf}
 use Rattle.manager_laws.proofs.laws.Ways.{deleted, delete-by-cases, check-by-cases}
 use Rattle.manager_laws.proofs.laws.Created as create
 use Rattle.manager_laws.proofs.laws.Delegated as delegate
-use Rattle.manager_laws.proofs.laws.Recording.{listed, recording}
+use Rattle.manager_laws.proofs.laws.Recording.{withList, recording}
 use Rattle.manager_laws.proofs.laws.Standing.{admitted-ids, created-stands, delegated-stands}
 use Rattle.manager_laws.proofs.laws.Undone.{Undone}
 use Rattle.manager_laws.proofs.laws.Unchanged.{create-undone, delegate-undone}
@@ -152,7 +152,7 @@ module _ (mem : List ℕ) (token source target rights : ℕ) where
 
   module _ (g : delegate.Good mem token source target rights) where
     -- Giving the parent a list frees none either.
-    listed-none : NoneFreed (numbersOf mem) mem (listed mem token source target rights g)
+    listed-none : NoneFreed (numbersOf mem) mem (withList mem token source target rights g)
     listed-none =
         let t = g .took in
         let taken-sound = take-step-kept (numbersOf mem) (r t) (r-sound t) .sound in

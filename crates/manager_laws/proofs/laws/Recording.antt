@@ -59,15 +59,15 @@ module _ (mem : List ℕ) (token source target rights : ℕ) (g : Good mem token
       (t .asked .few)
 
   -- The memory in which the parent has a list.
-  abbrev pub listed : List ℕ
-  listed = listStep d p taken
+  abbrev pub withList : List ℕ
+  withList = listStep d p taken
 
-  pub listed-count : registeredOf listed ≡ registeredOf (from mem token source target rights (g .took))
-  listed-count = list-step d taken taken-sound p below .same-word 11 (omega arith) (omega arith) ∙ same .same-count
+  pub with-list-count : registeredOf withList ≡ registeredOf (from mem token source target rights (g .took))
+  with-list-count = list-step d taken taken-sound p below .same-word 11 (omega arith) (omega arith) ∙ same .same-count
 
   pub recording :
       registeredOf (from mem token source target rights (g .took)) < numbersOf mem .places
-      → Registration (numbersOf mem) listed (g .took .id) (suc (parent mem token source target rights (g .took)))
+      → Registration (numbersOf mem) withList (g .took .id) (suc (parent mem token source target rights (g .took)))
   recording room =
       child-registration d taken taken-sound p inside (t .id) (rw (same .same-count) room) (taken-in-hand d r r-sound (t .id) (t .is))
       unrevoked few

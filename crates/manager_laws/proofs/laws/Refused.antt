@@ -13,7 +13,7 @@ use Rattle.answers.specs.Number.{numberOf}
 use Rattle.answers.specs.declared.Answer.{Answer}
 use Rattle.answers.specs.declared.Answer.the-variants.{Done, InsufficientRights, CapabilityRevoked, NotFound, BadSpace, BadField, RecycleFull, BadWorld}
 use Rattle.space.specs.Lookup.{lookedUp}
-use Rattle.steps.specs.Replies.{Left, Listed, done, refusal}
+use Rattle.steps.specs.Replies.{Left, WithArea, done, refusal}
 use Rattle.steps.specs.Steps.{spaceOf, lookupStep, placeIn, childrenOf}
 use Rattle.steps.specs.declared.Reply.{Reply}
 use Rattle.steps.proofs.laws.Cases.{when-by-cases, given, not-given}
@@ -79,8 +79,8 @@ module _ (mem : List ℕ) where
   pub children-entered : (id : ℕ) (area : List ℕ) → (childrenOut mem id area .reply .answer ≡ BadWorld) ↔ (¬ Sound mem)
   unfolding childrenOut
   children-entered id area =
-      let fine : Listed → Type 0 = λ (l : Listed). Inner (l .reply .answer) in
-      world-told (λ (l : Listed). l .reply .answer) _ mem _ (λ a. refl)
+      let fine : WithArea → Type 0 = λ (l : WithArea). Inner (l .reply .answer) in
+      world-told (λ (l : WithArea). l .reply .answer) _ mem _ (λ a. refl)
       (when-by-cases fine _ _ (leb (2 ^ 48) id) (λ over. inner BadField refl refl)
       (λ fits.
       when-by-cases fine _ _ (not (leb (childrenOf d mem (placeIn d mem id)) (length area))) (λ short. inner BadField refl refl)
@@ -187,7 +187,7 @@ module _ (mem : List ℕ) (sound : Sound mem) where
     count = childrenOf (numbersOf mem) mem (placeIn (numbersOf mem) mem id)
 
     children-by-cases :
-        (P : Listed → Type 0) → ((2 ^ 48 ≤ id) ⊎ (length area < count) → P (record { reply = refusal BadField; area = area }))
+        (P : WithArea → Type 0) → ((2 ^ 48 ≤ id) ⊎ (length area < count) → P (record { reply = refusal BadField; area = area }))
         → (id < 2 ^ 48 → count ≤ length area → (after : List ℕ) → P (record { reply = done count; area = after }))
         → P (childrenOut mem id area)
     unfolding childrenOut
@@ -205,7 +205,7 @@ module _ (mem : List ℕ) (sound : Sound mem) where
         (childrenOut mem id area .reply .answer ≡ BadField)
         ↔ ((2 ^ 48 ≤ id) ⊎ (length area < childrenOf (numbersOf mem) mem (placeIn (numbersOf mem) mem id)))
     children-told-21 =
-        children-by-cases (λ (l : Listed). (l .reply .answer ≡ BadField) ↔ ((2 ^ 48 ≤ id) ⊎ (length area < count)))
+        children-by-cases (λ (l : WithArea). (l .reply .answer ≡ BadField) ↔ ((2 ^ 48 ≤ id) ⊎ (length area < count)))
         (λ any. given refl any)
         (λ fits long after. not-given Done BadField (λ e. omega (arith, e)) (⊎-elim (λ over. omega arith) (λ short. omega arith)))
 
@@ -213,6 +213,6 @@ module _ (mem : List ℕ) (sound : Sound mem) where
         (childrenOut mem id area .reply .answer ≡ Done)
         ↔ ((id < 2 ^ 48) × (childrenOf (numbersOf mem) mem (placeIn (numbersOf mem) mem id) ≤ length area))
     children-told-0 =
-        children-by-cases (λ (l : Listed). (l .reply .answer ≡ Done) ↔ ((id < 2 ^ 48) × (count ≤ length area)))
+        children-by-cases (λ (l : WithArea). (l .reply .answer ≡ Done) ↔ ((id < 2 ^ 48) × (count ≤ length area)))
         (λ any. not-given BadField Done (λ e. omega (arith, e)) (λ (fits, long). ⊎-elim (λ over. omega arith) (λ short. omega arith) any))
         (λ fits long after. given refl (fits, long))

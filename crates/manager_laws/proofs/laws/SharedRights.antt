@@ -61,7 +61,8 @@ looked-held d s mem sound valid token rights (Entry e) is held = record {
 offered-held :
     (d : Numbers) (target p cap-type rights k m : ℕ) (mem : List ℕ) → target < d .spaces → SoundAt d mem
     → offeredFrom d target p cap-type rights k m mem .held ≡ true
-    → HeldWith d target (offeredFrom d target p cap-type rights k m mem .memory) (offeredFrom d target p cap-type rights k m mem .token) rights
+    → HeldWith d target (offeredFrom d target p cap-type rights k m mem .memory)
+    (offeredFrom d target p cap-type rights k m mem .token) rights
 offered-held d target p cap-type rights k m mem valid sound =
     offered-ends d target p cap-type rights (SoundAt d)
     (λ (o : Offered). o .held ≡ true → HeldWith d target (o .memory) (o .token) rights)

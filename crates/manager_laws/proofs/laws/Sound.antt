@@ -19,7 +19,7 @@ use Rattle.delegation_calls.specs.Delegation.{delegateOut}
 use Rattle.manager_calls.specs.Calls.{createOut, deleteOut, checkOut}
 use Rattle.manager_laws.proofs.laws.Created as create
 use Rattle.manager_laws.proofs.laws.Delegated as delegate
-use Rattle.manager_laws.proofs.laws.Recording.{listed, recording}
+use Rattle.manager_laws.proofs.laws.Recording.{withList, recording}
 use Rattle.manager_laws.proofs.laws.StepsKept.{taken-in-hand, given-back, entered-kept, undone-kept, deleted-kept}
 use Rattle.manager_laws.proofs.laws.Ways.{delete-by-cases, check-by-cases}
 
@@ -79,7 +79,7 @@ module _ (mem : List ℕ) (sound : Sound mem) (token source target rights : ℕ)
       kept-trans numbers mem _ _ taken (given-back numbers _ (taken .sound) (t .id) (taken-in-hand numbers _ (base .sound) (t .id) (t .is)))
 
   -- or the parent has a list from now on.
-  listed-kept : (g : delegate.Good mem token source target rights) → Kept numbers mem (listed mem token source target rights g)
+  listed-kept : (g : delegate.Good mem token source target rights) → Kept numbers mem (withList mem token source target rights g)
   listed-kept g =
       let taken = taken-kept (g .took) in
       let base = delegate.base-kept mem token source target rights (g .took .asked .granted) in

@@ -13,7 +13,7 @@ use Rattle.answers.specs.declared.Answer.the-variants.{Done}
 use Rattle.registry.specs.HoldersLaws.{HoldersOnly, place-is}
 use Rattle.registry.specs.StatesOnly.{same-ids, same-objects, same-links}
 use Rattle.registry.specs.RegisteringLaws.{NewPlace, registered-new}
-use Rattle.registry.specs.Words.{revoked, listed}
+use Rattle.registry.specs.Words.{revoked, hasList}
 use Rattle.space.specs.Change.{insertOut}
 use Rattle.space.specs.Lookup.{lookedUp}
 use Rattle.space.proofs.laws.Held.{inserted-is-found}
@@ -40,7 +40,7 @@ use Rattle.manager_calls.specs.Calls.{createOut}
 use Rattle.manager_calls.specs.Tokens.{tokenOf}
 use Rattle.manager_laws.proofs.laws.Created as create
 use Rattle.manager_laws.proofs.laws.Delegated as delegate
-use Rattle.manager_laws.proofs.laws.Recording.{listed-count, recording}
+use Rattle.manager_laws.proofs.laws.Recording.{with-list-count, recording}
 use Rattle.manager_laws.proofs.laws.SameIds.{SameIds, ids-trans, register-ids, insert-ids, count-ids}
 use Rattle.manager_laws.proofs.laws.SameRegistered.{take-same}
 use Rattle.manager_laws.proofs.laws.StepsKept.{Registration, registered-kept, taken-in-hand, token-id}
@@ -50,7 +50,7 @@ pub record Stands (d : Numbers) (s id k link : ℕ) (e : CapabilityEntry) (after
   pub place : placeIn d after id ≡ k
   pub registered : placeIn d after id < registeredOf after
   pub unrevoked : revoked (states d after (placeIn d after id)) ≡ 0
-  pub no-list : listed (states d after (placeIn d after id)) ≡ 0
+  pub no-list : hasList (states d after (placeIn d after id)) ≡ 0
   pub object : objects d after (placeIn d after id) ≡ e .object
   pub parent : links d after (placeIn d after id) ≡ link
   pub found : lookedUp (spaceOf d s after) (e .capability .0) .got ≡ Entry e
@@ -208,7 +208,7 @@ module _ (mem : List ℕ) (token source target rights : ℕ) where
           let t : Took = g .took in
           let after : List ℕ = delegate.outOf mem token source target rights (delegate.accepted g room a) .memory in
           let granted = t .asked .granted in
-          let count = listed-count mem token source target rights g in
+          let count = with-list-count mem token source target rights g in
           let reg = recording mem token source target rights g room in
           let shared : ℕ = delegate.shared mem token source target rights granted in
           let small : shared < 2 ^ 32 = omega (arith, and-le-r (granted .entry .rights .0) rights) in

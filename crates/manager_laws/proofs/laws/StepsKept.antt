@@ -95,7 +95,8 @@ module _ (d : Numbers) (mem : List ℕ) (sound : SoundAt d mem) where
 -- ---- create
 
 -- A created id has no parent.
-pub parentless : (d : Numbers) (mem : List ℕ) → SoundAt d mem → (id : ℕ) → registeredOf mem < d .places → InHand d mem id → Registration d mem id 0
+pub parentless : (d : Numbers) (mem : List ℕ) → SoundAt d mem → (id : ℕ) → registeredOf mem < d .places → InHand d mem id
+    → Registration d mem id 0
 parentless d mem sound id room h =
     record { sound = sound; room = room; hand = h; parent = no-parent (d .places) (registeredOf mem) (view d registry mem) }
 
@@ -159,7 +160,7 @@ module _ (d : Numbers) (mem : List ℕ) (sound : SoundAt d mem) where
         rw (changed .same-word 11 (omega arith) (omega arith), changed .new-registry)
         (record {
           earlier = omega arith;
-          has-list = λ q e. rw (← (pred-same e)) (only .listed-here);
+          has-list = λ q e. rw (← (pred-same e)) (only .has-list-here);
           room = λ q e.
               rw (← (pred-same e))
               (rw

@@ -26,7 +26,7 @@ use Rattle.manager_laws.proofs.laws.Created as create
 use Rattle.manager_laws.proofs.laws.CreateTold.{create-told-22, create-told-4}
 use Rattle.manager_laws.proofs.laws.Delegated as delegate
 use Rattle.manager_laws.proofs.laws.DelegateTold.{delegate-told-26, delegate-told-20, delegate-told-6, delegate-told-10, delegate-told-9, delegate-told-3, delegate-told-22, delegate-told-4}
-use Rattle.manager_laws.proofs.laws.Recording.{listed, recording}
+use Rattle.manager_laws.proofs.laws.Recording.{withList, recording}
 use Rattle.manager_laws.proofs.laws.SameRegistered.{SameRegistered, registered-trans, take-same}
 use Rattle.manager_laws.proofs.laws.Ways.{delete-by-cases, check-by-cases}
 use Rattle.manager_laws.proofs.laws.Undone.{Undone, registering-undone}
@@ -236,7 +236,7 @@ module _ (mem : List ℕ) (token source target rights : ℕ) where
       (g : Good) (room : registeredOf (delegate.from mem token source target rights (g .took)) < numbersOf mem .places)
       (none : ¬ Accepts (spaceOf (numbersOf mem) target (delegate.from mem token source target rights (g .took)))
       (delegate.childEntry mem token source target rights (g .took)))
-      → Undone (numbersOf mem) (listed mem token source target rights g) (g .took .id)
+      → Undone (numbersOf mem) (withList mem token source target rights g) (g .took .id)
       (delegate.outOf mem token source target rights (delegate.refused g room none) .memory)
   delegate-undone g room none =
       let t : TookChild = g .took in
@@ -247,11 +247,12 @@ module _ (mem : List ℕ) (token source target rights : ℕ) where
   pub delegate-4 :
       delegateOut mem token source target rights .reply .answer ≡ OutOfMemory
       → (g : Good)
-      × Undone (numbersOf mem) (listed mem token source target rights g) (g .took .id) (delegateOut mem token source target rights .memory)
+      × Undone (numbersOf mem) (withList mem token source target rights g) (g .took .id)
+      (delegateOut mem token source target rights .memory)
   delegate-4 e =
       let (g, (room, none)) = delegate-told-4 mem token source target rights .0 e in (
         g,
-        subst (λ (out : Left Reply). Undone numbers (listed mem token source target rights g) (g .took .id) (out .memory))
+        subst (λ (out : Left Reply). Undone numbers (withList mem token source target rights g) (g .took .id) (out .memory))
             (sym (delegate.goes mem token source target rights (delegate.refused g room none))) (delegate-undone g room none),
       )
 

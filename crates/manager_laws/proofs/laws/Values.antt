@@ -8,7 +8,7 @@ use Prim.Native.Nat.{ℕ, _^_}
 use lib.Dec.{leb}
 use lib.ListN.{length}
 use Rattle.answers.specs.declared.Answer.the-variants.{Done}
-use Rattle.steps.specs.Replies.{Listed, refusal}
+use Rattle.steps.specs.Replies.{WithArea, refusal}
 use Rattle.steps.specs.Steps.{placeIn, childrenOf}
 use Rattle.steps.specs.declared.Reply.{Reply}
 use Rattle.steps.proofs.laws.Cases.{when-by-cases}
@@ -60,5 +60,5 @@ module _ (mem : List ℕ) where
       when-by-cases Same _ _ (not (leb (childrenOf d mem (placeIn d mem id)) (length area))) (λ short not-0. (refl, refl))
       (λ long not-0. absurd (not-0 refl))))
     where
-      Same : Listed → Type 0
+      Same : WithArea → Type 0
       Same l = l .reply .answer ≢ Done → (l .area ≡ area) × (l .reply .value ≡ 0)

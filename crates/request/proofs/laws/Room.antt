@@ -12,7 +12,7 @@ use Rattle.base.specs.Arith.{nextPower}
 use Rattle.base.specs.Below.{all, first}
 use Rattle.base.specs.Choose.{pick, when-no}
 use Rattle.base.specs.Written.{written}
-use Rattle.steps.specs.Replies.{Left, Listed}
+use Rattle.steps.specs.Replies.{Left, WithArea}
 use Rattle.steps.specs.declared.Reply.{Reply}
 use Rattle.world.specs.Numbers.{inRangeTest}
 use Rattle.world.specs.Open as world
@@ -64,8 +64,8 @@ module _
 
     pub alone-writes : longer ≡ written (programLines bytes) area
     unfolding programLines
-    alone-writes = ap (λ (o : Left Listed). o .reply .area) runs
+    alone-writes = ap (λ (o : Left WithArea). o .reply .area) runs
 
     pub alone-counts : reply .value ≡ length (programLines bytes)
     unfolding programLines
-    alone-counts = ap (λ (o : Left Listed). o .reply .reply .value) runs
+    alone-counts = ap (λ (o : Left WithArea). o .reply .reply .value) runs

@@ -73,9 +73,9 @@ module _ (mem : List ℕ) (sound : Sound mem) where
         (create-entered mem s a valid (r .«cap_type») rights))
         (either _ _ _
         (sure _ (manager.delegate-keeps mem sound a s (r .second) rights fits) (delegate-told-26 mem a s (r .second) rights))
-        (either _ _ _ (fine s _ (space.lookup-keeps mem sound s a) (told.lookup-told mem s a))
+        (either _ _ _ (fine s _ (space.lookup-keeps mem sound s a) (told.lookup-entered mem s a))
         (either _ _ _ (fine s _ (manager.check-keeps mem sound a rights s) (check-entered mem a rights s))
-        (fine s _ (space.remove-keeps mem sound s a) (told.remove-told mem s a)))))
+        (fine s _ (space.remove-keeps mem sound s a) (told.remove-entered mem s a)))))
 
     fine-6-to-10 : Fine mem (called6To10 r mem)
     unfolding called6To10
@@ -83,9 +83,9 @@ module _ (mem : List ℕ) (sound : Sound mem) where
         let s : ℕ = r .space in
         either _ _ _ (sure _ (manager.delete-keeps mem sound (r .a)) (delete-entered mem (r .a)))
         (either _ _ _ (fine s _ (revocation.revoke-held-keeps mem sound s (r .a) (r .b) pids) (held-entered mem (r .b) pids s (r .a)))
-        (either _ _ _ (fine s _ (space.clear-keeps mem sound s) (told.clear-told mem s))
-        (either _ _ _ (sure _ (space.copy-keeps mem sound s (r .second)) (told.copy-told mem s (r .second) .0))
-        (fine s _ (space.revoke-all-keeps mem sound s) (told.revoke-all-told mem s)))))
+        (either _ _ _ (fine s _ (space.clear-keeps mem sound s) (told.clear-entered mem s))
+        (either _ _ _ (sure _ (space.copy-keeps mem sound s (r .second)) (told.copy-entered mem s (r .second) .0))
+        (fine s _ (space.revoke-all-keeps mem sound s) (told.revoke-all-entered mem s)))))
 
     fine-drained : Fine mem (drained (r .a) mem)
     unfolding drained
@@ -97,9 +97,9 @@ module _ (mem : List ℕ) (sound : Sound mem) where
         let s : ℕ = r .space in
         let a : ℕ = r .a in
         let rights : ℕ = r .rights in
-        either _ _ _ (fine s _ (space.insert-keeps mem sound s a (r .b) rights fits) (told.insert-told mem s a (r .b) rights))
-        (either _ _ _ (fine s _ (space.create-keeps mem sound s rights a fits) (told.create-told mem s rights a))
-        (either _ _ _ (fine s _ (space.revoke-keeps mem sound s a) (told.revoke-told mem s a))
+        either _ _ _ (fine s _ (space.insert-keeps mem sound s a (r .b) rights fits) (told.insert-entered mem s a (r .b) rights))
+        (either _ _ _ (fine s _ (space.create-keeps mem sound s rights a fits) (told.create-entered mem s rights a))
+        (either _ _ _ (fine s _ (space.revoke-keeps mem sound s a) (told.revoke-entered mem s a))
         (either _ _ _ fine-drained
         (sure _ (revocation.revoke-capability-keeps mem sound a (r .b) pids) (revoke-capability-entered mem (r .b) pids a)))))
 

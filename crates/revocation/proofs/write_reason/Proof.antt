@@ -43,8 +43,11 @@ write-reason-spec =
     (λ c. search needs)
     (λ c. named _ Explicit (c .before .before .before .before .before .enum-told .given .1) _ _ _ (c .before .before .write-name .ensures))
     (λ c. search needs)
-    (λ c. named _ ParentRevoked (c .before .before .before .before .before .enum-told2 .given .1) _ _ _ (c .before .before .write-name2 .ensures))
+    (λ c. named _ ParentRevoked (c .before .before .before .before .before .enum-told2 .given .1) _ _ _
+    (c .before .before .write-name2 .ensures))
     (λ c. search needs)
-    (λ c. named _ ProcessExit (c .before .before .before .before .before .enum-told3 .given .1) _ _ _ (c .before .before .write-name3 .ensures))
+    (λ c. named _ ProcessExit (c .before .before .before .before .before .enum-told3 .given .1) _ _ _
+    (c .before .before .write-name3 .ensures))
     (λ c. search needs)
-    (λ c. named _ PolicyEnforced (c .before .before .before .before .before .enum-told4 .given .1) _ _ _ (c .before .before .write-name4 .ensures)))
+    (λ c. named _ PolicyEnforced (c .before .before .before .before .before .enum-told4 .given .1) _ _ _
+    (c .before .before .write-name4 .ensures)))

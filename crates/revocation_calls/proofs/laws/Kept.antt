@@ -15,7 +15,7 @@ use Rattle.token.specs.Token.{idOf, generationOf}
 use Rattle.world.specs.Numbers.{loggedOf, epochWord}
 use Rattle.world.specs.Sound.{SoundAt}
 use Rattle.world.specs.declared.Numbers.{Numbers}
-use Rattle.revocation_calls.specs.Revoking.{listing, revokingToken}
+use Rattle.revocation_calls.specs.Revoking.{loggingToken, revokingToken}
 use Rattle.revocation_calls.proofs.Pairs.{pair-coded}
 use Rattle.revocation_calls.proofs.laws.RevokingWays.{newPair, pairsWith, listing-leaves, token-leaves}
 
@@ -37,8 +37,8 @@ module _ (d : Numbers) (mem : List ℕ) (sound : SoundAt d mem) (token : ℕ) wh
       one-coded zero l = pair-coded token
       one-coded (suc k) l = absurd (omega arith)
 
-  pub listing-kept : Kept d mem (listing d token mem .memory)
-  listing-kept = listing-leaves d mem (Kept d mem) (kept-refl d mem sound) token joined-kept
+  pub logging-kept : Kept d mem (loggingToken d token mem .memory)
+  logging-kept = listing-leaves d mem (Kept d mem) (kept-refl d mem sound) token joined-kept
 
   pub revoking-token-kept : (time : ℕ) (listed : List ℕ) → Kept d mem (revokingToken d token time listed mem .memory)
   revoking-token-kept time listed =

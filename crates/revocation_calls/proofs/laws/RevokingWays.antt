@@ -18,7 +18,7 @@ use Rattle.token.specs.Token.{idOf, generationOf}
 use Rattle.world.specs.Numbers.{registeredOf, loggedOf, epochWord}
 use Rattle.world.specs.Sound.{states}
 use Rattle.world.specs.declared.Numbers.{Numbers}
-use Rattle.revocation_calls.specs.Revoking.{revoking, listing, revokingToken}
+use Rattle.revocation_calls.specs.Revoking.{revoking, loggingToken, revokingToken}
 
 -- How many pairs the log has with those that a cascade from place r adds,
 abbrev pub pairsAfter : Numbers → List ℕ → ℕ → ℕ
@@ -55,19 +55,19 @@ module _ (d : Numbers) (mem : List ℕ) (P : Left Reply → Type 0) where
       when-by-cases P _ _ (ltb free needed) (λ e. crowded unrevoked (ltb-false _ _ fits) (ltb-true free needed e))
       (λ e. goes unrevoked (ltb-false _ _ fits) (ltb-false free needed e))))
 
-  pub listing-by-cases :
+  pub logging-by-cases :
       (token : ℕ) → (d .pairs < pairsWith d mem token → P (refuse mem LogFull))
       → (pairsWith d mem token ≤ d .pairs
       → P (record { reply = done 0; memory = addStep epochWord 1 (logStep d (newPair d mem token) mem) }))
-      → P (listing d token mem)
-  unfolding listing
-  listing-by-cases token full goes =
+      → P (loggingToken d token mem)
+  unfolding loggingToken
+  logging-by-cases token full goes =
       when-by-cases P _ _ (ltb (d .pairs) (pairsWith d mem token)) (λ e. full (ltb-true _ _ e)) (λ e. goes (ltb-false _ _ e))
 
   pub revoking-token-by-cases :
       (token time : ℕ) (listed : List ℕ)
       → (placeIn d mem (idOf token) < registeredOf mem → P (revoking d (placeIn d mem (idOf token)) time listed mem))
-      → (registeredOf mem ≤ placeIn d mem (idOf token) → P (listing d token mem)) → P (revokingToken d token time listed mem)
+      → (registeredOf mem ≤ placeIn d mem (idOf token) → P (loggingToken d token mem)) → P (revokingToken d token time listed mem)
   unfolding revokingToken
   revoking-token-by-cases token time listed inside outside =
       let r : ℕ = placeIn d mem (idOf token) in
@@ -89,8 +89,8 @@ module _ (d : Numbers) (mem : List ℕ) (P : List ℕ → Type 0) (as-it-was : P
 
   pub listing-leaves :
       (token : ℕ) → (pairsWith d mem token ≤ d .pairs → P (addStep epochWord 1 (logStep d (newPair d mem token) mem)))
-      → P (listing d token mem .memory)
-  listing-leaves token goes = listing-by-cases d mem Leaves token (λ full. as-it-was) goes
+      → P (loggingToken d token mem .memory)
+  listing-leaves token goes = logging-by-cases d mem Leaves token (λ full. as-it-was) goes
 
   pub token-leaves :
       (token time : ℕ) (listed : List ℕ)

@@ -25,7 +25,7 @@ use Rattle.world.specs.Regions.{Region, space, registry, log, queue, view}
 use Rattle.world.specs.Sound.{states, SoundAt}
 use Rattle.world.specs.Views.{Change, view-other, head-kept}
 use Rattle.world.specs.declared.Numbers.{Numbers}
-use Rattle.revocation_calls.specs.Revoking.{revoking, listing, revokingToken}
+use Rattle.revocation_calls.specs.Revoking.{revoking, loggingToken, revokingToken}
 use Rattle.revocation_calls.proofs.laws.RevokingWays.{pairsAfter, pairsWith}
 
 -- ---- what a revocation answers, by its tests
@@ -55,15 +55,15 @@ module _ (d : Numbers) (mem : List ℕ) where
   revoking-replies r time listed =
       reply-of _ _ _ ∙ ap (when _ (done 0)) (reply-of _ _ _ ∙ ap (when _ (refusal LogFull)) (reply-of _ _ _))
 
-  listing-replies : (token : ℕ) → listing d token mem .reply ≡ listReply (ltb (d .pairs) (pairsWith d mem token))
-  unfolding listing
+  listing-replies : (token : ℕ) → loggingToken d token mem .reply ≡ listReply (ltb (d .pairs) (pairsWith d mem token))
+  unfolding loggingToken
   listing-replies token = reply-of _ _ _
 
   token-replies :
       (token time : ℕ) (listed : List ℕ)
       → revokingToken d token time listed mem .reply
       ≡ pick (ltb (placeIn d mem (idOf token)) (registeredOf mem))
-      (revoking d (placeIn d mem (idOf token)) time listed mem .reply) (listing d token mem .reply)
+      (revoking d (placeIn d mem (idOf token)) time listed mem .reply) (loggingToken d token mem .reply)
   unfolding revokingToken
   token-replies token time listed = picked-reply (ltb (placeIn d mem (idOf token)) (registeredOf mem)) _ _
 
@@ -111,7 +111,7 @@ module _ (d : Numbers) (mem : List ℕ) (sound : SoundAt d mem) (s : ℕ) (there
         same-new-queues d mem after same-queues listed,
       ) refl)
 
-  same-listing : (token : ℕ) → listing d token after .reply ≡ listing d token mem .reply
+  same-listing : (token : ℕ) → loggingToken d token after .reply ≡ loggingToken d token mem .reply
   same-listing token =
       rw (listing-replies d after token, listing-replies d mem token) (rw (same-logged, same-log) refl)
 

@@ -22,7 +22,7 @@ use Rattle.world.specs.Numbers.{numbersOf, registeredOf}
 use Rattle.world.specs.Sound.{Sound}
 use Rattle.world.specs.declared.Numbers.{Numbers}
 use Rattle.revocation_calls.specs.Calls.{revokeOut, revokeCapabilityOut, revokeHeldOut}
-use Rattle.revocation_calls.specs.Revoking.{revoking, listing, revokingToken, revokingHeld}
+use Rattle.revocation_calls.specs.Revoking.{revoking, loggingToken, revokingToken, revokingHeld}
 use Rattle.revocation_calls.proofs.laws.RevokingWays.{revoking-token-by-cases}
 use Rattle.revocation_laws.proofs.laws.Counted.{same-registered, same-registry}
 use Rattle.revocation_laws.proofs.laws.Ways.{revoke-by-cases, revoke-capability-by-cases, held-by-cases}
@@ -58,7 +58,7 @@ module _ (mem : List ℕ) (token time : ℕ) (listed : List ℕ) (P : List ℕ �
 
   -- Of an id that is not registered.
   pub revoke-capability-listed :
-      registeredOf mem ≤ place → (Sound mem → Given P (listing (numbersOf mem) token mem))
+      registeredOf mem ≤ place → (Sound mem → Given P (loggingToken (numbersOf mem) token mem))
       → Given P (revokeCapabilityOut mem token time listed)
   revoke-capability-listed outside made =
       revoke-capability-by-cases mem time listed (Given P) (λ bad. not-done _ (λ e. omega arith)) token
@@ -106,7 +106,7 @@ module _ (mem : List ℕ) (token time : ℕ) (listed : List ℕ) (P : List ℕ �
 
     pub held-listed :
         registeredOf mem ≤ place
-        → (Sound mem → s < numbersOf mem .spaces → Given P (listing (numbersOf mem) token (lookupStep (numbersOf mem) s token mem)))
+        → (Sound mem → s < numbersOf mem .spaces → Given P (loggingToken (numbersOf mem) token (lookupStep (numbersOf mem) s token mem)))
         → Given P (revokeHeldOut mem s token time listed)
     held-listed outside made =
         held-made

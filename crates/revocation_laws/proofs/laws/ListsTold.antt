@@ -11,7 +11,7 @@ use lib.ListN.{length}
 use Rattle.answers.specs.declared.Answer.the-variants.{Done, BadField, PidTableFull, BadWorld}
 use Rattle.revocation.specs.Reason.{reasonOf, nameOf}
 use Rattle.revocation_steps.specs.Revocation.{queueFor}
-use Rattle.steps.specs.Replies.{Left, Listed}
+use Rattle.steps.specs.Replies.{Left, WithArea}
 use Rattle.steps.specs.Steps.{placeIn}
 use Rattle.steps.proofs.laws.Cases.{when-by-cases, Exactly, given, not-given}
 use Rattle.steps.proofs.laws.Entered.{world-by-cases}
@@ -19,23 +19,23 @@ use Rattle.world.specs.Numbers.{numbersOf}
 use Rattle.world.specs.Sound.{Sound}
 use Rattle.world.specs.declared.Numbers.{Numbers}
 use Rattle.notification_calls.specs.Calls.{notifyOut, noticesFor, peekOut, drainOut}
-use Rattle.revocation_calls.specs.Calls.{listedIn, descendants, descendantsOut, reasonOut}
+use Rattle.revocation_calls.specs.Calls.{intoArea, descendants, descendantsOut, reasonOut}
 use Rattle.revocation_laws.proofs.laws.NoticeWays.{NoPlace, HasPlace, TooShort, LongEnough, notify-by-cases, peek-by-cases, drain-peeks}
 
 -- ---- lists
 
 -- The area is too short.
-listed-told-21 : (xs area : List ℕ) → (listedIn xs area .reply .answer ≡ BadField) ↔ (length area < length xs)
-unfolding listedIn
+listed-told-21 : (xs area : List ℕ) → (intoArea xs area .reply .answer ≡ BadField) ↔ (length area < length xs)
+unfolding intoArea
 listed-told-21 xs area =
-    when-by-cases (λ (l : Listed). (l .reply .answer ≡ BadField) ↔ (length area < length xs)) _ _ (ltb (length area) (length xs))
+    when-by-cases (λ (l : WithArea). (l .reply .answer ≡ BadField) ↔ (length area < length xs)) _ _ (ltb (length area) (length xs))
     (λ e. given refl (ltb-true _ _ e))
     (λ e. let fits = ltb-false (length area) (length xs) e in not-given Done BadField (λ e. omega arith) (λ short. omega arith))
 
-listed-told-0 : (xs area : List ℕ) → (listedIn xs area .reply .answer ≡ Done) ↔ (length xs ≤ length area)
-unfolding listedIn
+listed-told-0 : (xs area : List ℕ) → (intoArea xs area .reply .answer ≡ Done) ↔ (length xs ≤ length area)
+unfolding intoArea
 listed-told-0 xs area =
-    when-by-cases (λ (l : Listed). (l .reply .answer ≡ Done) ↔ (length xs ≤ length area)) _ _ (ltb (length area) (length xs))
+    when-by-cases (λ (l : WithArea). (l .reply .answer ≡ Done) ↔ (length xs ≤ length area)) _ _ (ltb (length area) (length xs))
     (λ e. let short = ltb-true (length area) (length xs) e in not-given BadField Done (λ e. omega arith) (λ fits. omega arith))
     (λ e. given refl (ltb-false _ _ e))
 
@@ -44,7 +44,7 @@ pub reason-told-21 :
     → (reasonOut reason area .reply .answer ≡ BadField) ↔ ((3 < reason) ⊎ (length area < length (nameOf (reasonOf reason))))
 unfolding reasonOut
 reason-told-21 reason area =
-    when-by-cases (λ (l : Listed). (l .reply .answer ≡ BadField) ↔ Bad) _ _ (ltb 3 reason)
+    when-by-cases (λ (l : WithArea). (l .reply .answer ≡ BadField) ↔ Bad) _ _ (ltb 3 reason)
     (λ e. given refl (inl (ltb-true 3 reason e)))
     (λ e.
     let coded = ltb-false 3 reason e in
@@ -59,7 +59,7 @@ pub reason-told-0 :
     → (reasonOut reason area .reply .answer ≡ Done) ↔ ((reason ≤ 3) × (length (nameOf (reasonOf reason)) ≤ length area))
 unfolding reasonOut
 reason-told-0 reason area =
-    when-by-cases (λ (l : Listed). (l .reply .answer ≡ Done) ↔ Good) _ _ (ltb 3 reason)
+    when-by-cases (λ (l : WithArea). (l .reply .answer ≡ Done) ↔ Good) _ _ (ltb 3 reason)
     (λ e. let over = ltb-true 3 reason e in not-given BadField Done (λ e. omega arith) (λ (coded, fits). omega arith))
     (λ e.
     let told = listed-told-0 (nameOf (reasonOf reason)) area in
@@ -90,7 +90,7 @@ module _ (mem : List ℕ) (sound : Sound mem) where
       let told = listed-told-21 (descendants d mem (placeIn d mem id)) area in
       (λ e. inr (told .0 e), ⊎-elim (λ over. absurd (omega arith)) (λ short. told .1 short))))
     where
-      Said : Listed → Type 0
+      Said : WithArea → Type 0
       Said l =
           (l .reply .answer ≡ BadField)
           ↔ ((2 ^ 48 ≤ id) ⊎ (length area < length (descendants (numbersOf mem) mem (placeIn (numbersOf mem) mem id))))
@@ -102,7 +102,7 @@ module _ (mem : List ℕ) (sound : Sound mem) where
         (peekOut mem pid area .reply .answer ≡ BadField)
         ↔ (length area < length (noticesFor (numbersOf mem) mem (queueFor (numbersOf mem) mem pid)))
     peek-told-21 =
-        peek-by-cases mem pid area (λ (l : Listed). (l .reply .answer ≡ BadField) ↔ TooShort mem pid area) unsound
+        peek-by-cases mem pid area (λ (l : WithArea). (l .reply .answer ≡ BadField) ↔ TooShort mem pid area) unsound
         (λ sound short. given refl short)
         (λ sound fits. not-given Done BadField (λ e. omega arith) (λ short. omega arith))
 
@@ -160,7 +160,7 @@ module _ (mem : List ℕ) where
       let told = listed-told-0 (descendants (numbersOf mem) mem (placeIn (numbersOf mem) mem id)) area in
       (λ done. (sound, (leb-false (2 ^ 48) id e, told .0 done)), λ (sound, (fits, long)). told .1 long)))
     where
-      Said : Listed → Type 0
+      Said : WithArea → Type 0
       Said l =
           (l .reply .answer ≡ Done)
           ↔ (Sound mem
@@ -172,7 +172,7 @@ module _ (mem : List ℕ) where
 
     pub peek-told-0 : (peekOut mem pid area .reply .answer ≡ Done) ↔ (Sound mem × LongEnough mem pid area)
     peek-told-0 =
-        peek-by-cases mem pid area (λ (l : Listed). (l .reply .answer ≡ Done) ↔ Fits)
+        peek-by-cases mem pid area (λ (l : WithArea). (l .reply .answer ≡ Done) ↔ Fits)
         (λ bad. not-given BadWorld Done (λ e. omega arith) (λ (sound, fits). bad sound))
         (λ sound short. not-given BadField Done (λ e. omega arith) (λ (sound, fits). omega arith))
         (λ sound fits. given refl (sound, fits))

@@ -12,7 +12,7 @@ use Rattle.answers.specs.declared.Answer.the-variants.{Done}
 use Rattle.base.specs.Distinct.{Differ}
 use Rattle.base.specs.Members.{In}
 use Rattle.registry.specs.DescentLaws.{Under}
-use Rattle.registry.specs.Words.{revoked, listed, holders}
+use Rattle.registry.specs.Words.{revoked, hasList, holders}
 use Rattle.revocation.specs.Log.{pairOf, logHas}
 use Rattle.revocation_steps.specs.Revocation.{cascade, cascadeIds}
 use Rattle.revocation_steps.proofs.laws.Cascade.{cascade-exactly, under-revoked, cascade-ids-exactly}
@@ -55,7 +55,7 @@ pub record Revokes (d : Numbers) (r : ℕ) (mem after : List ℕ) : Type 0 where
   pub same-ids : (k : ℕ) → k < d .places → ids d after k ≡ ids d mem k
   pub same-objects : (k : ℕ) → k < d .places → objects d after k ≡ objects d mem k
   pub same-links : (k : ℕ) → links d after k ≡ links d mem k
-  pub same-lists : (k : ℕ) → listed (states d after k) ≡ listed (states d mem k)
+  pub same-lists : (k : ℕ) → hasList (states d after k) ≡ hasList (states d mem k)
   pub same-holders : (k : ℕ) → holders (states d after k) ≡ holders (states d mem k)
   pub same-recycled-count : recycledOf after ≡ recycledOf mem
   pub same-recycled : (k : ℕ) → recycled d after k ≡ recycled d mem k

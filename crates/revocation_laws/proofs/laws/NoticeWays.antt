@@ -11,7 +11,7 @@ use Rattle.answers.specs.declared.Answer.the-variants.{BadField, PidTableFull, 
 use Rattle.base.specs.Choose.{both, both-left, both-right, when}
 use Rattle.revocation_steps.specs.Revocation.{queueFor, freeQueue, notifyStep}
 use Rattle.steps.specs.Enter.{onWorld}
-use Rattle.steps.specs.Replies.{Left, Listed, done, refusal, refuse}
+use Rattle.steps.specs.Replies.{Left, WithArea, done, refusal, refuse}
 use Rattle.steps.specs.declared.Reply.{Reply}
 use Rattle.steps.proofs.laws.Cases.{when-by-cases}
 use Rattle.steps.proofs.laws.Entered.{world-by-cases}
@@ -90,7 +90,7 @@ module _ (mem : List ℕ) (pid : ℕ) (area : List ℕ) where
   words = length (noticesFor (numbersOf mem) mem (queueFor (numbersOf mem) mem pid))
 
   pub peek-by-cases :
-      (P : Listed → Type 0) → (¬ Sound mem → P (record { reply = refusal BadWorld; area = area }))
+      (P : WithArea → Type 0) → (¬ Sound mem → P (record { reply = refusal BadWorld; area = area }))
       → (Sound mem → TooShort mem pid area → P (record { reply = refusal BadField; area = area }))
       → (Sound mem → LongEnough mem pid area → P (peeked (numbersOf mem) mem (queueFor (numbersOf mem) mem pid) area))
       → P (peekOut mem pid area)
@@ -100,7 +100,7 @@ module _ (mem : List ℕ) (pid : ℕ) (area : List ℕ) where
       (λ sound. when-by-cases P _ _ (ltb (length area) words) (λ e. short sound (ltb-true _ _ e)) (λ e. goes sound (ltb-false _ _ e)))
 
   pub drain-by-cases :
-      (P : Left Listed → Type 0)
+      (P : Left WithArea → Type 0)
       → (¬ Sound mem → P (record { reply = record { reply = refusal BadWorld; area = area }; memory = mem }))
       → (Sound mem → TooShort mem pid area → P (record { reply = record { reply = refusal BadField; area = area }; memory = mem }))
       → (Sound mem → LongEnough mem pid area

@@ -23,7 +23,7 @@ use Rattle.revocation_steps.proofs.laws.CascadeNotices.{revoke-step-notices}
 use Rattle.revocation_steps.proofs.laws.NoticeSteps.{notices-none, notify-joins, freed-others, freed-none}
 use Rattle.revocation_steps.proofs.laws.NoticesSent.{sentTo, all-stay}
 use Rattle.revocation_steps.proofs.laws.SameQueues.{noticesOf, same-notices}
-use Rattle.steps.specs.Replies.{Left, Listed, refuse}
+use Rattle.steps.specs.Replies.{Left, WithArea, refuse}
 use Rattle.steps.specs.Steps.{lookupStep, placeIn}
 use Rattle.steps.specs.declared.Reply.{Reply}
 use Rattle.steps.proofs.laws.Cases.{pick-by-cases}
@@ -153,7 +153,7 @@ without-notices mem sound pid =
     (λ e. record { here = notices-none d mem pid (ltb-false q (d .queues) e); others = λ x apart. refl })
 
 -- The notices of the pid in front of the area, whose other places are as they were; the value is how many.
-pub record Listing (mem : List ℕ) (pid : ℕ) (area : List ℕ) (l : Listed) : Type 0 where
+pub record Listing (mem : List ℕ) (pid : ℕ) (area : List ℕ) (l : WithArea) : Type 0 where
   pub words : l .area ≡ written (noticesOf (numbersOf mem) mem pid) area
   pub count : 3 * l .reply .value ≡ length (noticesOf (numbersOf mem) mem pid)
 
@@ -172,7 +172,7 @@ listed-count mem pid = go (ltb q (numbersOf mem .queues))
 module _ (mem : List ℕ) (pid : ℕ) where
   pub peek-lists : (area : List ℕ) → peekOut mem pid area .reply .answer ≡ Done → Listing mem pid area (peekOut mem pid area)
   peek-lists area =
-      peek-by-cases mem pid area (λ (l : Listed). l .reply .answer ≡ Done → Listing mem pid area l)
+      peek-by-cases mem pid area (λ (l : WithArea). l .reply .answer ≡ Done → Listing mem pid area l)
       (λ bad e. absurd (omega (arith, ap numberOf e))) (λ sound short e. absurd (omega (arith, ap numberOf e)))
       (λ sound fits e. record { words = refl; count = listed-count mem pid })
 
@@ -183,7 +183,7 @@ module _ (mem : List ℕ) (pid : ℕ) where
   pub drain-notices :
       (area : List ℕ) → drainOut mem pid area .reply .reply .answer ≡ Done → OnlyFor mem pid [] (drainOut mem pid area .memory)
   drain-notices area =
-      drain-by-cases mem pid area (λ (out : Left Listed). out .reply .reply .answer ≡ Done → OnlyFor mem pid [] (out .memory))
+      drain-by-cases mem pid area (λ (out : Left WithArea). out .reply .reply .answer ≡ Done → OnlyFor mem pid [] (out .memory))
       (λ bad e. absurd (omega (arith, ap numberOf e))) (λ sound short e. absurd (omega (arith, ap numberOf e)))
       (λ sound fits e. without-notices mem sound pid)
 

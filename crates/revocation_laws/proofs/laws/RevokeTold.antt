@@ -19,7 +19,7 @@ use Rattle.world.specs.Sound.{states, Sound}
 use Rattle.world.specs.declared.Numbers.{Numbers}
 use Rattle.revocation_calls.specs.Calls.{revokeOut, revokeCapabilityOut}
 use Rattle.revocation_calls.specs.Revoking.{revoking, revokingToken}
-use Rattle.revocation_calls.proofs.laws.RevokingWays.{pairsAfter, pairsWith, revoking-by-cases, listing-by-cases, revoking-token-by-cases}
+use Rattle.revocation_calls.proofs.laws.RevokingWays.{pairsAfter, pairsWith, revoking-by-cases, logging-by-cases, revoking-token-by-cases}
 use Rattle.revocation_laws.proofs.laws.Ways.{Own, own-not, revoking-own, revoking-token-own, revoke-by-cases, revoke-capability-by-cases, revoke-capability-called}
 
 -- ---- from a registered place
@@ -90,7 +90,7 @@ module _ (d : Numbers) (mem : List ℕ) (token time : ℕ) (listed : List ℕ) w
         ⊎-elim (λ (l, full). told .1 full) (λ (outside, full). absurd (omega arith)),
       ))
       (λ outside.
-      listing-by-cases d mem (Exactly LogFull TokenNoPairs) token
+      logging-by-cases d mem (Exactly LogFull TokenNoPairs) token
       (λ full. given refl (inr (outside, full)))
       (λ fits. not-given Done LogFull (λ e. omega arith) (⊎-elim (λ (l, full). omega arith) (λ (u, full). omega arith))))
 
@@ -99,7 +99,7 @@ module _ (d : Numbers) (mem : List ℕ) (token time : ℕ) (listed : List ℕ) w
       revoking-token-by-cases d mem (Exactly PidTableFull TokenNoQueues) token time listed
       (λ inside. let told = revoking-told-25 d mem place time listed in (λ e. (inside, told .0 e), λ (l, crowded). told .1 crowded))
       (λ outside.
-      listing-by-cases d mem (Exactly PidTableFull TokenNoQueues) token
+      logging-by-cases d mem (Exactly PidTableFull TokenNoQueues) token
       (λ full. not-given LogFull PidTableFull (λ e. omega arith) (λ (l, crowded). omega arith))
       (λ fits. not-given Done PidTableFull (λ e. omega arith) (λ (l, crowded). omega arith)))
 
@@ -112,7 +112,7 @@ module _ (d : Numbers) (mem : List ℕ) (token time : ℕ) (listed : List ℕ) w
         ⊎-elim (λ (l, goes). told .1 goes) (λ (outside, fits). absurd (omega arith)),
       ))
       (λ outside.
-      listing-by-cases d mem (Exactly Done TokenGoes) token
+      logging-by-cases d mem (Exactly Done TokenGoes) token
       (λ full. not-given LogFull Done (λ e. omega arith) (⊎-elim (λ (l, goes). omega arith) (λ (u, fits). omega arith)))
       (λ fits. given refl (inr (outside, fits))))
 

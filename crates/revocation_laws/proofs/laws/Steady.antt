@@ -15,7 +15,7 @@ use Rattle.revocation_calls.proofs.laws.Kept.{revoking-token-kept}
 use Rattle.revocation_calls.proofs.laws.RevokingWays.{pairsAfter, newPair, pairsWith, revoking-leaves, token-leaves}
 use Rattle.revocation_steps.specs.Revocation.{logStep, queueFor, notifyStep, freeStep, revokeStep}
 use Rattle.space.specs.Lookup.{lookedUp}
-use Rattle.steps.specs.Replies.{Left, Listed}
+use Rattle.steps.specs.Replies.{Left, WithArea}
 use Rattle.steps.specs.Steps.{spaceOf, lookupStep, addStep}
 use Rattle.steps.specs.declared.Reply.{Reply}
 use Rattle.steps.proofs.laws.Cases.{pick-by-cases, when-by-cases}
@@ -120,7 +120,7 @@ module _ (mem : List ℕ) (sound : Sound mem) (R : List ℕ → List ℕ → Typ
 
   pub drain-steady : (pid : ℕ) (area : List ℕ) → R mem (drainOut mem pid area .memory)
   drain-steady pid area =
-      drain-by-cases mem pid area (λ (out : Left Listed). R mem (out .memory)) (λ bad. as-it-is) (λ sound short. as-it-is)
+      drain-by-cases mem pid area (λ (out : Left WithArea). R mem (out .memory)) (λ bad. as-it-is) (λ sound short. as-it-is)
       (λ sound fits. without-steady (queueFor d mem pid))
 
   pub cleanup-steady : (pid : ℕ) → R mem (cleanupOut mem pid .memory)

@@ -16,7 +16,7 @@ use Rattle.base.specs.Choose.{both, when}
 use Rattle.revocation_steps.specs.Revocation.{queueFor, freeQueue}
 use Rattle.space.specs.Lookup.{lookedUp}
 use Rattle.steps.specs.Enter.{onWorld}
-use Rattle.steps.specs.Replies.{Left, Listed, refuse}
+use Rattle.steps.specs.Replies.{Left, WithArea, refuse}
 use Rattle.steps.specs.Steps.{spaceOf, lookupStep, placeIn}
 use Rattle.steps.specs.declared.Reply.{Reply}
 use Rattle.steps.proofs.laws.Cases.{when-by-cases, given}
@@ -31,7 +31,7 @@ use Rattle.world.specs.Sound.{Sound}
 use Rattle.world.specs.declared.Numbers.{Numbers}
 use Rattle.notification_calls.specs.Calls.{notifyOut, noticesFor, peekOut, drainOut, notificationCountOut, cleanupOut, notificationStatsOut}
 use Rattle.notification_calls.specs.declared.QueuesReply.{QueuesReply}
-use Rattle.revocation_calls.specs.Calls.{revokeOut, revokeCapabilityOut, revokeHeldOut, revokeBatchOut, isRevokedOut, epochOut, listedIn, descendants, descendantsOut}
+use Rattle.revocation_calls.specs.Calls.{revokeOut, revokeCapabilityOut, revokeHeldOut, revokeBatchOut, isRevokedOut, epochOut, intoArea, descendants, descendantsOut}
 use Rattle.revocation_calls.specs.Revoking.{revokingHeld}
 use Rattle.revocation_laws.proofs.laws.Ways.{Own, own-not, revoking-own, revoking-token-own, each-done}
 use Rattle.revocation_laws.proofs.laws.NoticeWays.{drain-peeks}
@@ -44,7 +44,7 @@ answerOf out = out .reply .answer
 abbrev Fine : Left Reply → Type 0
 Fine out = Inner (out .reply .answer)
 
-abbrev FineList : Listed → Type 0
+abbrev FineList : WithArea → Type 0
 FineList l = Inner (l .reply .answer)
 
 inner-own : (a : Answer) → Own a → Inner a
@@ -61,8 +61,8 @@ inner-held d token time listed mem (Entry e) visits =
     when-by-cases Fine _ _ (not (holds (e .rights .0) (2 ^ 4))) (λ without. inner InsufficientRights refl refl)
     (λ with′. inner-own _ (revoking-token-own d mem token time listed))
 
-inner-listed : (xs area : List ℕ) → Inner (listedIn xs area .reply .answer)
-unfolding listedIn
+inner-listed : (xs area : List ℕ) → Inner (intoArea xs area .reply .answer)
+unfolding intoArea
 inner-listed xs area = when-by-cases FineList _ _ (ltb (length area) (length xs)) (λ short. inner BadField refl refl) (λ fits. inner-0)
 
 -- ---- call by call
@@ -115,7 +115,7 @@ module _ (mem : List ℕ) where
   pub descendants-entered : (id : ℕ) (area : List ℕ) → (descendantsOut mem id area .reply .answer ≡ BadWorld) ↔ (¬ Sound mem)
   unfolding descendantsOut
   descendants-entered id area =
-      world-told (λ (l : Listed). l .reply .answer) _ mem _ (λ a. refl)
+      world-told (λ (l : WithArea). l .reply .answer) _ mem _ (λ a. refl)
       (when-by-cases FineList _ _ (leb (2 ^ 48) id) (λ over. inner BadField refl refl)
       (λ fits. inner-listed (descendants d mem (placeIn d mem id)) area))
 
@@ -133,7 +133,7 @@ module _ (mem : List ℕ) where
   pub peek-entered : (pid : ℕ) (area : List ℕ) → (peekOut mem pid area .reply .answer ≡ BadWorld) ↔ (¬ Sound mem)
   unfolding peekOut
   peek-entered pid area =
-      world-told (λ (l : Listed). l .reply .answer) _ mem _ (λ a. refl)
+      world-told (λ (l : WithArea). l .reply .answer) _ mem _ (λ a. refl)
       (when-by-cases FineList _ _ (ltb (length area) (length (noticesFor d mem (queueFor d mem pid)))) (λ short. inner BadField refl refl)
       (λ fits. inner-0))
 

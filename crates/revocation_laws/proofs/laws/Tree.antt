@@ -18,7 +18,7 @@ use Rattle.registry.specs.Descent.{descent}
 use Rattle.registry.specs.DescentLaws.{descent-below, descent-once, descent-first, descent-parents-first, descent-exactly}
 use Rattle.registry.specs.HoldersLaws.{place-holds, place-is}
 use Rattle.registry.specs.PlaceLists.{AllBelow}
-use Rattle.steps.specs.Replies.{Listed}
+use Rattle.steps.specs.Replies.{WithArea}
 use Rattle.steps.specs.Steps.{placeIn, ChildOf}
 use Rattle.steps.proofs.laws.Cases.{when-by-cases}
 use Rattle.steps.proofs.laws.Entered.{world-by-cases}
@@ -26,7 +26,7 @@ use Rattle.world.specs.Numbers.{numbersOf, registeredOf}
 use Rattle.world.specs.Regions.{registry, view}
 use Rattle.world.specs.Sound.{ids, links, SoundAt}
 use Rattle.world.specs.declared.Numbers.{Numbers}
-use Rattle.revocation_calls.specs.Calls.{listedIn, descendants, descendantsOut}
+use Rattle.revocation_calls.specs.Calls.{intoArea, descendants, descendantsOut}
 use Rattle.revocation_laws.proofs.laws.Meaning.{Descends}
 
 -- The list has exactly the ids that descend from the id, but for itself, each once, and each behind its parent or a child of the id.
@@ -151,7 +151,7 @@ pub descendants-listed :
     (mem : List ℕ) (id : ℕ) (area : List ℕ) → descendantsOut mem id area .reply .answer ≡ Done
     → (descendantsOut mem id area .area ≡ written (descendants (numbersOf mem) mem (placeIn (numbersOf mem) mem id)) area)
     × (descendantsOut mem id area .reply .value ≡ length (descendants (numbersOf mem) mem (placeIn (numbersOf mem) mem id)))
-unfolding descendantsOut listedIn
+unfolding descendantsOut intoArea
 descendants-listed mem id area =
     world-by-cases Lists _ mem _ (λ bad e. absurd (omega (arith, ap numberOf e)))
     (λ sound.
@@ -162,5 +162,5 @@ descendants-listed mem id area =
     list : List ℕ
     list = descendants (numbersOf mem) mem (placeIn (numbersOf mem) mem id)
 
-    Lists : Listed → Type 0
+    Lists : WithArea → Type 0
     Lists l = l .reply .answer ≡ Done → (l .area ≡ written list area) × (l .reply .value ≡ length list)

@@ -13,7 +13,7 @@ use Rattle.answers.specs.declared.Answer.the-variants.{Done, InvalidCapability,
 use Rattle.registry.specs.Words.{revoked}
 use Rattle.revocation.specs.Reason.{reasonOf, nameOf}
 use Rattle.space.specs.Lookup.{lookedUp}
-use Rattle.steps.specs.Replies.{Left, Listed, replied, done, refusal, refuse}
+use Rattle.steps.specs.Replies.{Left, WithArea, replied, done, refusal, refuse}
 use Rattle.steps.specs.Steps.{spaceOf, lookupStep, placeIn}
 use Rattle.steps.specs.declared.Reply.{Reply}
 use Rattle.steps.proofs.laws.Cases.{when-by-cases}
@@ -27,9 +27,9 @@ use Rattle.world.specs.Numbers.{numbersOf, registeredOf}
 use Rattle.world.specs.Sound.{states, Sound}
 use Rattle.world.specs.declared.Numbers.{Numbers}
 use Rattle.notification_calls.specs.Calls.{notifyOut, peekOut, drainOut, cleanupOut}
-use Rattle.revocation_calls.specs.Calls.{revokeOut, revokeCapabilityOut, revokeHeldOut, revokeBatchOut, listedIn, descendants, descendantsOut, reasonOut}
+use Rattle.revocation_calls.specs.Calls.{revokeOut, revokeCapabilityOut, revokeHeldOut, revokeBatchOut, intoArea, descendants, descendantsOut, reasonOut}
 use Rattle.revocation_calls.specs.Revoking.{revoking, revokingToken, revokingHeld}
-use Rattle.revocation_calls.proofs.laws.RevokingWays.{revoking-by-cases, listing-by-cases, revoking-token-by-cases}
+use Rattle.revocation_calls.proofs.laws.RevokingWays.{revoking-by-cases, logging-by-cases, revoking-token-by-cases}
 use Rattle.revocation_laws.proofs.laws.Counted.{same-registered, same-registry}
 use Rattle.revocation_laws.proofs.laws.NoticeWays.{notify-by-cases, peek-by-cases, drain-by-cases, drain-peeks}
 use Rattle.revocation_laws.proofs.laws.Ways.{each-done, revoke-by-cases, revoke-capability-by-cases, held-by-cases, batch-by-cases, withVisits, revoke-registered, revoke-capability-called, held-with-revoke}
@@ -40,7 +40,7 @@ pub record Unchanged (mem : List ℕ) (out : Left Reply) : Type 0 where
   pub no-value : out .reply .answer ≢ Done → out .reply .value ≡ 0
 
 -- and the area.
-pub record UnchangedArea (area : List ℕ) (l : Listed) : Type 0 where
+pub record UnchangedArea (area : List ℕ) (l : WithArea) : Type 0 where
   pub same-area : l .reply .answer ≢ Done → l .area ≡ area
   pub no-value : l .reply .answer ≢ Done → l .reply .value ≡ 0
 
@@ -61,7 +61,7 @@ module _ (d : Numbers) (mem : List ℕ) where
   token-unchanged : (token time : ℕ) (listed : List ℕ) → Unchanged mem (revokingToken d token time listed mem)
   token-unchanged token time listed =
       revoking-token-by-cases d mem (Unchanged mem) token time listed (λ inside. revoking-unchanged _ time listed)
-      (λ outside. listing-by-cases d mem (Unchanged mem) token (λ full. refused mem LogFull) (λ fits. given-0 mem _ refl))
+      (λ outside. logging-by-cases d mem (Unchanged mem) token (λ full. refused mem LogFull) (λ fits. given-0 mem _ refl))
 
   -- Revoked already.
   revoking-already :
@@ -200,11 +200,11 @@ cleanup-unchanged mem pid =
 refused-list : (area : List ℕ) (a : Answer) → UnchangedArea area (record { reply = refusal a; area = area })
 refused-list area a = record { same-area = λ not-0. refl; no-value = λ not-0. refl }
 
-listed-0 : (area : List ℕ) (l : Listed) → l .reply .answer ≡ Done → UnchangedArea area l
+listed-0 : (area : List ℕ) (l : WithArea) → l .reply .answer ≡ Done → UnchangedArea area l
 listed-0 area l e = record { same-area = λ not-0. absurd (not-0 e); no-value = λ not-0. absurd (not-0 e) }
 
-listed-unchanged : (xs area : List ℕ) → UnchangedArea area (listedIn xs area)
-unfolding listedIn
+listed-unchanged : (xs area : List ℕ) → UnchangedArea area (intoArea xs area)
+unfolding intoArea
 listed-unchanged xs area =
     when-by-cases (UnchangedArea area) _ _ (ltb (length area) (length xs)) (λ short. refused-list area BadField)
     (λ fits. listed-0 area _ refl)
@@ -234,7 +234,7 @@ module _ (mem : List ℕ) where
       → (drainOut mem pid area .reply .reply .answer ≢ Done → drainOut mem pid area .memory ≡ mem)
       × UnchangedArea area (drainOut mem pid area .reply)
   drain-unchanged pid area = (
-    drain-by-cases mem pid area (λ (out : Left Listed). out .reply .reply .answer ≢ Done → out .memory ≡ mem) (λ bad not-0. refl)
+    drain-by-cases mem pid area (λ (out : Left WithArea). out .reply .reply .answer ≢ Done → out .memory ≡ mem) (λ bad not-0. refl)
         (λ sound short not-0. refl) (λ sound fits not-0. absurd (not-0 refl)),
     rw (drain-peeks mem pid area) (peek-unchanged pid area),
   )

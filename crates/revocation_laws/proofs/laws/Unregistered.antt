@@ -29,10 +29,10 @@ use Rattle.world.specs.Sound.{logPairs, SoundAt}
 use Rattle.world.specs.Views.{length-view}
 use Rattle.world.specs.declared.Numbers.{Numbers}
 use Rattle.revocation_calls.specs.Calls.{revokeCapabilityOut, revokeHeldOut}
-use Rattle.revocation_calls.specs.Revoking.{listing}
+use Rattle.revocation_calls.specs.Revoking.{loggingToken}
 use Rattle.revocation_laws.proofs.laws.Given.{revoke-capability-listed, held-listed}
-use Rattle.revocation_calls.proofs.laws.Kept.{listing-kept}
-use Rattle.revocation_calls.proofs.laws.RevokingWays.{newPair, pairsWith, listing-by-cases}
+use Rattle.revocation_calls.proofs.laws.Kept.{logging-kept}
+use Rattle.revocation_calls.proofs.laws.RevokingWays.{newPair, pairsWith, logging-by-cases}
 
 pub record OnlyLogged (d : Numbers) (pair : ℕ) (mem after : List ℕ) : Type 0 where
   pub same-registry : view d registry after ≡ view d registry mem
@@ -104,13 +104,13 @@ module _ (d : Numbers) (mem : List ℕ) (sound : SoundAt d mem) (token : ℕ) wh
           epoch-counted .same-word j l no-epoch ∙ log-step-word d mem (sound .long-enough) new fits j l no-logged;
     }
 
-  listing-means : listing d token mem .reply .answer ≡ Done → OnlyLogged d pair mem (listing d token mem .memory)
+  listing-means : loggingToken d token mem .reply .answer ≡ Done → OnlyLogged d pair mem (loggingToken d token mem .memory)
   listing-means e =
-      listing-by-cases d mem
+      logging-by-cases d mem
       (λ (out : Left Reply). out .reply .answer ≡ Done → Kept d mem (out .memory) → OnlyLogged d pair mem (out .memory)) token
       (λ full e. absurd (omega (arith, ap numberOf e)))
       (λ fits e. logged-only fits)
-      e (listing-kept d mem sound token)
+      e (logging-kept d mem sound token)
 
 -- ---- the calls
 

@@ -28,7 +28,7 @@ use Rattle.world.specs.Sound.{Sound}
 use Rattle.world.specs.declared.Numbers.{Numbers}
 use Rattle.revocation_calls.specs.Calls.{revokeOut, revokeCapabilityOut, revokeHeldOut, revokeBatchOut}
 use Rattle.revocation_calls.specs.Revoking.{revoking, revokingToken, revokingHeld, revokingEach}
-use Rattle.revocation_calls.proofs.laws.RevokingWays.{revoking-by-cases, listing-by-cases, revoking-token-by-cases}
+use Rattle.revocation_calls.proofs.laws.RevokingWays.{revoking-by-cases, logging-by-cases, revoking-token-by-cases}
 
 -- ---- what a revocation answers: 0, 24 or 25
 
@@ -52,7 +52,7 @@ module _ (d : Numbers) (mem : List ℕ) where
   revoking-token-own token time listed =
       revoking-token-by-cases d mem Answered token time listed
       (λ inside. revoking-own (placeIn d mem (idOf token)) time listed)
-      (λ outside. listing-by-cases d mem Answered token (λ full. inr (inl refl)) (λ fits. inl refl))
+      (λ outside. logging-by-cases d mem Answered token (λ full. inr (inl refl)) (λ fits. inl refl))
 
 -- A batch answers 0.
 pub each-done :

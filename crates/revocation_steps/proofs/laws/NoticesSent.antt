@@ -14,6 +14,8 @@ use Rattle.base.specs.Below.{one}
 use Rattle.base.specs.Choose.{pick, both, both-true, both-false}
 use Rattle.base.specs.FirstLaws.{first-before}
 use Rattle.base.specs.SumLaws.{sum-const-zero}
+use Rattle.revocation.specs.Reason.{numberOf}
+use Rattle.revocation.specs.declared.RevocationReason.the-variants.{ParentRevoked}
 use Rattle.revocation.specs.NoticesLaws.{lastWords, length-notices, last-last}
 use Rattle.world.specs.Regions.{queue, view}
 use Rattle.world.specs.Sound.{lengths, SoundAt}
@@ -95,7 +97,7 @@ module _ (d : Numbers) (mem : List ℕ) (listed : List ℕ) (room : Room d mem l
 -- The words of one id, as parent_revoked, as often as the pid is listed; and of many ids in turn.
 unfoldable pub wordsFor : ℕ → List ℕ → ℕ → ℕ → List ℕ
 wordsFor pid [] id time = []
-wordsFor pid (x ∷ listed) id time = pick (eqb x pid) (id ∷ time ∷ 1 ∷ []) [] ++ wordsFor pid listed id time
+wordsFor pid (x ∷ listed) id time = pick (eqb x pid) (id ∷ time ∷ numberOf ParentRevoked ∷ []) [] ++ wordsFor pid listed id time
 
 unfoldable pub sentTo : ℕ → List ℕ → List ℕ → ℕ → List ℕ
 sentTo pid listed [] time = []
@@ -144,9 +146,10 @@ module _ (d : Numbers) where
     module _ (time : ℕ) where
       one-sent :
           (mem : List ℕ) → SoundAt d mem → Room d mem listed → (id x : ℕ) → isIn x listed ≡ true
-          → Sent (λ pid. pick (eqb x pid) (id ∷ time ∷ 1 ∷ []) []) mem (notifyStep d x id time 1 mem)
+          → Sent (λ pid. pick (eqb x pid) (id ∷ time ∷ numberOf ParentRevoked ∷ []) []) mem
+          (notifyStep d x id time (numberOf ParentRevoked) mem)
       one-sent mem sound room id x among =
-          let joined = notify-joins d mem sound x id time 1 (omega arith) (placed d mem listed room x among) in
+          let joined = notify-joins d mem sound x id time (numberOf ParentRevoked) (omega arith) (placed d mem listed room x among) in
           record {
             got = λ pid.
                 by-cases (ℕ-discrete x pid)
@@ -163,9 +166,9 @@ module _ (d : Numbers) where
       pids-sent [] mem sound room among id = sent-refl mem sound room
       pids-sent (x ∷ served) mem sound room among id =
           let one-more = one-sent mem sound room id x (among x (rw (eq-eqb x x refl))) in
-          let sound₁ = notify-step d mem sound x id time 1 (omega arith) .kept .sound in
-          sent-trans _ _ mem (notifyStep d x id time 1 mem) _ one-more
-          (pids-sent served (notifyStep d x id time 1 mem) sound₁ (one-more .room) (λ y e. among y (later y x e)) id)
+          let sound₁ = notify-step d mem sound x id time (numberOf ParentRevoked) (omega arith) .kept .sound in
+          sent-trans _ _ mem (notifyStep d x id time (numberOf ParentRevoked) mem) _ one-more
+          (pids-sent served (notifyStep d x id time (numberOf ParentRevoked) mem) sound₁ (one-more .room) (λ y e. among y (later y x e)) id)
         where
           later : (y x : ℕ) → isIn y served ≡ true → isIn y (x ∷ served) ≡ true
           later y x e = go (eqb y x)

@@ -12,6 +12,8 @@ use lib.Dec.{eqb, ltb}
 use lib.ListN.{length, getD}
 use Rattle.base.specs.Choose.{pick, both, both-left, both-make}
 use Rattle.base.specs.FirstLaws.{first-passes, first-before}
+use Rattle.revocation.specs.Reason.{numberOf}
+use Rattle.revocation.specs.declared.RevocationReason.the-variants.{ParentRevoked}
 use Rattle.revocation.specs.Queue.{pushed, begun, freed}
 use Rattle.revocation.specs.QueueLaws.{length-pushed, length-begun, length-freed, pid-pushed, pid-begun, length-of-freed, begun-sound, pushed-sound}
 use Rattle.revocation.specs.Sound.{SoundQueue, PidsDiffer}
@@ -145,7 +147,8 @@ module _ (d : Numbers) (mem : List ℕ) (sound : SoundAt d mem) where
   unfolding freeStep
   free-step q l =
       let none : lengthOf (freed (view d (queue q) mem)) ≡ 0 = length-of-freed (view d (queue q) mem) (long q l) in
-      queue-changed d mem sound q l freed (length-freed (view d (queue q) mem)) (λ some. absurd (omega arith)) (λ some. absurd (omega arith))
+      queue-changed d mem sound q l freed (length-freed (view d (queue q) mem)) (λ some. absurd (omega arith))
+      (λ some. absurd (omega arith))
 
   pub free-step-kept : (q : ℕ) → q < d .queues → Kept d mem (freeStep d q mem)
   free-step-kept q l = free-step q l .kept
@@ -207,8 +210,9 @@ pub notify-pids :
 unfolding notifyPids
 notify-pids d mem sound [] id time = queues-refl d mem sound
 notify-pids d mem sound (pid ∷ listed) id time =
-    let one-more = notify-step d mem sound pid id time 1 (omega arith) in
-    queues-trans d mem _ _ one-more (notify-pids d (notifyStep d pid id time 1 mem) (one-more .kept .sound) listed id time)
+    let one-more = notify-step d mem sound pid id time (numberOf ParentRevoked) (omega arith) in
+    queues-trans d mem _ _ one-more
+    (notify-pids d (notifyStep d pid id time (numberOf ParentRevoked) mem) (one-more .kept .sound) listed id time)
 
 pub notify-all :
     (d : Numbers) (mem : List ℕ) → SoundAt d mem → (listed ids : List ℕ) (time : ℕ) → QueuesKept d mem (notifyAll d listed ids time mem)

@@ -10,9 +10,9 @@ use lib.ListN.{length, take}
 use Rattle.base.specs.Members.{In}
 use Rattle.registry.specs.Descent.{descent, marked}
 use Rattle.registry.specs.DescentLaws.{Under, descent-exactly}
-use Rattle.registry.specs.MarkedLaws.{OnlyMarked, only-marked-listed, only-marked-holders, only-marked-elsewhere, descent-marked-only, descent-marked-revoked}
+use Rattle.registry.specs.MarkedLaws.{OnlyMarked, only-marked-has-list, only-marked-holders, only-marked-elsewhere, descent-marked-only, descent-marked-revoked}
 use Rattle.registry.specs.StatesOnly.{same-ids, same-objects, same-links, same-recycled}
-use Rattle.registry.specs.Words.{objectAt, revoked, listed, holders}
+use Rattle.registry.specs.Words.{objectAt, revoked, hasList, holders}
 use Rattle.revocation.specs.Log.{logHas}
 use Rattle.revocation.specs.LogLaws.{take-appended, has-joined}
 use Rattle.world.specs.Numbers.{registeredOf, loggedOf}
@@ -74,8 +74,8 @@ module _ (d : Numbers) (mem : List ℕ) (sound : SoundAt d mem) (r : ℕ) (insid
     pub revoke-step-holders : (k : ℕ) → holders (states d (revokeStep d r time pids mem) k) ≡ holders (states d mem k)
     revoke-step-holders = only-marked-holders (d .places) found rg _ only
 
-    pub revoke-step-lists : (k : ℕ) → listed (states d (revokeStep d r time pids mem) k) ≡ listed (states d mem k)
-    revoke-step-lists = only-marked-listed (d .places) found rg _ only
+    pub revoke-step-lists : (k : ℕ) → hasList (states d (revokeStep d r time pids mem) k) ≡ hasList (states d mem k)
+    revoke-step-lists = only-marked-has-list (d .places) found rg _ only
 
     pub revoke-step-recycled : (k : ℕ) → recycled d (revokeStep d r time pids mem) k ≡ recycled d mem k
     revoke-step-recycled = same-recycled (d .places) rg _ only

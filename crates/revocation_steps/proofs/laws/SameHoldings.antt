@@ -80,7 +80,7 @@ module _ (d : Numbers) (mem : List ℕ) (sound : SoundAt d mem) where
           recycled-issued = rw (is-m, is-rg, is-next) (sound .recycled-issued);
           recycled-fit = rw is-m (sound .recycled-fit);
           linked = rw (is-n, is-rg) (sound .linked);
-          listed = rw (is-n, is-rg) (sound .listed);
+          has-list = rw (is-n, is-rg) (sound .has-list);
           short = rw (is-n, is-rg) (sound .short);
           cascaded = rw (is-n, is-rg) (sound .cascaded);
           pairs-coded = logs .coded;

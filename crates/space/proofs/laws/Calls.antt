@@ -1,4 +1,4 @@
--- Whatever the call, a sound space kept sound and its quota never changes.
+-- Whatever the call, a sound space is kept sound, and its quota never changes.
 use mathlib.Core.Path.{_≡_, refl, ap}
 use mathlib.Core.List.{List}
 use Prim.Native.Nat.{ℕ, _^_, _<_}

@@ -30,7 +30,8 @@ freshly (Entry x) = Entry (fresh x)
 freshly Nothing = Nothing
 
 module _ (most : ℕ) (source target : List ℕ) (s : SpaceOf most source) (t : SpaceOf most target) where
-  pub copy-holds : (x : CapabilityEntry) → Has (view (copiedSpace source target)) x ↔ HoldsAs fresh (slotWords source) (tableOf source .slots) x
+  pub copy-holds : (x : CapabilityEntry) → Has (view (copiedSpace source target)) x
+      ↔ HoldsAs fresh (slotWords source) (tableOf source .slots) x
   unfolding copiedTable
   copy-holds x =
       has-as _ _ x (view-copied source target (fits most target t))

@@ -151,7 +151,13 @@ module _ (most : ℕ) (sp : List ℕ) (s : SpaceOf most sp) (token : ℕ) where
             let from = lookup-holds x .0 h in
             let was = entryAt (slotWords sp) (from .slot) in
             let word : tokenOf was ≡ other = sym (same-token (eqb (tokenOf was) token) was) ∙ ap tokenOf (from .same) ∙ is in
-            record { slot = from .slot; below = from .below; live = from .live; same = other-kept was (λ e. d (sym word ∙ e)) ∙ from .same },
+            record {
+              slot = from .slot;
+              below = from .below;
+              live = from .live;
+              same = other-kept was (λ e. d (sym word ∙ e))
+                  ∙ from .same;
+            },
         λ h.
             lookup-holds x .1
             (record {

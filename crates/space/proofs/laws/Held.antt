@@ -138,7 +138,10 @@ module _ (most : ℕ) (sp : List ℕ) (s : SpaceOf most sp) where
                 (old, λ is. other (sym (old .same) ∙ ap (entryAt (slotWords sp)) (cc (e, held-exactly most sp s token x old is)))),
             λ (old, other). all-others .1 (old, λ is. other (ap tokenOf is ∙ same)),
           )
-      go Absent e = (λ h. (h, λ is. let here = held-exactly most sp s token x h is in let z : _≡_ {A = ℕ} 0 1 = cc in omega arith), λ h. h .0)
+      go Absent e = (
+        λ h. (h, λ is. let here = held-exactly most sp s token x h is in let z : _≡_ {A = ℕ} 0 1 = cc in omega arith),
+        λ h. h .0,
+      )
 
   pub removed-is-absent : (token : ℕ) → lookedUp (removedToken sp token) token .got ≡ Nothing
   removed-is-absent token = nothing-exactly most _ (remove-keeps most sp s token) token .1 (λ x h is. remove-holds token x .0 h .1 is)

@@ -102,7 +102,8 @@ module _ (sp : List ℕ) (fits : 8 ≤ length sp) where
 module _ (sp : List ℕ) (fits : 8 ≤ length sp) where
   -- ---- the calls
 
-  pub view-hit : (i : ℕ) → view (countedAt sp (At i)) ≡ withSlots (tableOf sp) (usedAt (slotWords sp) i) (withHits (up (hitsOf sp)) (view sp))
+  pub view-hit : (i : ℕ) → view (countedAt sp (At i))
+      ≡ withSlots (tableOf sp) (usedAt (slotWords sp) i) (withHits (up (hitsOf sp)) (view sp))
   view-hit i =
       rw (add-assoc 8 (4 * i) 2, ← getD-drop 8 sp (4 * i + 2) 0)
       (view-slot-word (set sp 2 (up (hitsOf sp))) (rw length-set fits) (4 * i + 2) _

@@ -80,29 +80,29 @@ module _ (mem : List ℕ) (s : ℕ) where
   sp = spaceOf d s mem
 
   -- The answer of the five calls that a space says of itself.
-  pub facts-told : Told mem s (factsOut mem s .answer)
+  pub facts-entered : Told mem s (factsOut mem s .answer)
   unfolding factsOut
-  facts-told = told (λ (r : FactsReply). r .answer) _ mem _ (λ a. refl) inner-0 s
+  facts-entered = told (λ (r : FactsReply). r .answer) _ mem _ (λ a. refl) inner-0 s
 
-  pub lookup-told : (token : ℕ) → Told mem s (lookupOut mem s token .reply .answer)
+  pub lookup-entered : (token : ℕ) → Told mem s (lookupOut mem s token .reply .answer)
   unfolding lookupOut
-  lookup-told token =
+  lookup-entered token =
       told answerOf _ mem _ (λ a. refl) (inner-found (λ e. e .rights .0) (lookedUp sp token .got) (lookedUp sp token .visits)) s
 
-  pub lookup-entry-told : (token : ℕ) → Told mem s (lookupEntryOut mem s token .reply .answer)
+  pub lookup-entry-entered : (token : ℕ) → Told mem s (lookupEntryOut mem s token .reply .answer)
   unfolding lookupEntryOut
-  lookup-entry-told token =
+  lookup-entry-entered token =
       told (λ (out : Left EntryReply). out .reply .answer) _ mem _ (λ a. refl)
       (inner-entry (lookedUp sp token .got) (lookedUp sp token .visits)) s
 
-  pub check-rights-told : (token required : ℕ) → Told mem s (checkRightsOut mem s token required .reply .answer)
+  pub check-rights-entered : (token required : ℕ) → Told mem s (checkRightsOut mem s token required .reply .answer)
   unfolding checkRightsOut
-  check-rights-told token required =
+  check-rights-entered token required =
       told answerOf _ mem _ (λ a. refl) (inner-held required (lookedUp sp token .got) (lookedUp sp token .visits)) s
 
-  pub get-entry-told : (id : ℕ) → Told mem s (getEntryOut mem s id .answer)
+  pub get-entry-entered : (id : ℕ) → Told mem s (getEntryOut mem s id .answer)
   unfolding getEntryOut when
-  get-entry-told id =
+  get-entry-entered id =
       told (λ (r : EntryReply). r .answer) _ mem _ (λ a. refl)
       (go (leb (2 ^ 48) id) (gotEntry sp id .got) (gotEntry sp id .visits)) s
     where
@@ -110,36 +110,36 @@ module _ (mem : List ℕ) (s : ℕ) where
       go true got visits = inner BadField refl refl
       go false got visits = inner-entry got visits
 
-  pub nth-entry-told : (n : ℕ) → Told mem s (nthEntryOut mem s n .answer)
+  pub nth-entry-entered : (n : ℕ) → Told mem s (nthEntryOut mem s n .answer)
   unfolding nthEntryOut
-  nth-entry-told n =
+  nth-entry-entered n =
       told (λ (r : EntryReply). r .answer) _ mem _ (λ a. refl)
       (inner-nth (nthOf (liveEntries (slotWords sp) 0 (tableOf sp .slots)) n)) s
 
-  pub insert-told : (token object rights : ℕ) → Told mem s (insertCallOut mem s token object rights .reply .answer)
+  pub insert-entered : (token object rights : ℕ) → Told mem s (insertCallOut mem s token object rights .reply .answer)
   unfolding insertCallOut
-  insert-told token object rights = told answerOf _ mem _ (λ a. refl) (inner-insert sp (newEntry token object rights)) s
+  insert-entered token object rights = told answerOf _ mem _ (λ a. refl) (inner-insert sp (newEntry token object rights)) s
 
-  pub remove-told : (token : ℕ) → Told mem s (removeOut mem s token .reply .answer)
+  pub remove-entered : (token : ℕ) → Told mem s (removeOut mem s token .reply .answer)
   unfolding removeOut
-  remove-told token =
+  remove-entered token =
       told answerOf _ mem _ (λ a. refl) (inner-found (λ e. e .object) (lookedUp sp token .got) (lookedUp sp token .visits)) s
 
-  pub increment-told : Told mem s (incrementOut mem s .reply .answer)
+  pub increment-entered : Told mem s (incrementOut mem s .reply .answer)
   unfolding incrementOut
-  increment-told = told answerOf _ mem _ (λ a. refl) inner-0 s
+  increment-entered = told answerOf _ mem _ (λ a. refl) inner-0 s
 
-  pub clear-told : Told mem s (clearOut mem s .reply .answer)
+  pub clear-entered : Told mem s (clearOut mem s .reply .answer)
   unfolding clearOut
-  clear-told = told answerOf _ mem _ (λ a. refl) inner-0 s
+  clear-entered = told answerOf _ mem _ (λ a. refl) inner-0 s
 
-  pub revoke-all-told : Told mem s (revokeAllOut mem s .reply .answer)
+  pub revoke-all-entered : Told mem s (revokeAllOut mem s .reply .answer)
   unfolding revokeAllOut
-  revoke-all-told = told answerOf _ mem _ (λ a. refl) inner-0 s
+  revoke-all-entered = told answerOf _ mem _ (λ a. refl) inner-0 s
 
-  pub create-told : (rights object : ℕ) → Told mem s (createOut mem s rights object .reply .answer)
+  pub create-entered : (rights object : ℕ) → Told mem s (createOut mem s rights object .reply .answer)
   unfolding createOut
-  create-told rights object = told answerOf _ mem _ (λ a. refl) (taken (takenId d mem)) s
+  create-entered rights object = told answerOf _ mem _ (λ a. refl) (taken (takenId d mem)) s
     where
       after : List ℕ
       after = takeStep d mem
@@ -152,9 +152,9 @@ module _ (mem : List ℕ) (s : ℕ) where
       taken (Id id) = tokened id (made id (generationOf (spaceOf d s after)) 0 0)
       taken Exhausted = inner SpaceIds refl refl
 
-  pub revoke-told : (id : ℕ) → Told mem s (revokeOut mem s id .reply .answer)
+  pub revoke-entered : (id : ℕ) → Told mem s (revokeOut mem s id .reply .answer)
   unfolding revokeOut
-  revoke-told id = told answerOf _ mem _ (λ a. refl) (go (ltb (2 ^ 48 - 1) id)) s
+  revoke-entered id = told answerOf _ mem _ (λ a. refl) (go (ltb (2 ^ 48 - 1) id)) s
     where
       go :
           (b : Bool)
@@ -165,18 +165,18 @@ module _ (mem : List ℕ) (s : ℕ) where
           inner-found (λ e. 0) (lookedUp sp token .got) (lookedUp sp token .visits)
 
 -- A call without a space is never answered 20.
-pub alloc-told : (mem : List ℕ) → (allocOut mem .reply .answer ≡ BadWorld) ↔ (¬ Sound mem)
+pub alloc-entered : (mem : List ℕ) → (allocOut mem .reply .answer ≡ BadWorld) ↔ (¬ Sound mem)
 unfolding allocOut
-alloc-told mem = world-told answerOf _ mem _ (λ a. refl) (inner-taken (takenId (numbersOf mem) mem))
+alloc-entered mem = world-told answerOf _ mem _ (λ a. refl) (inner-taken (takenId (numbersOf mem) mem))
 
 -- A copy names two spaces: 20 where either is not there.
-pub copy-told :
+pub copy-entered :
     (mem : List ℕ) (target source : ℕ)
     → ((copyOut mem target source .reply .answer ≡ BadWorld) ↔ (¬ Sound mem))
     × ((copyOut mem target source .reply .answer ≡ BadSpace)
     ↔ (Sound mem × ((numbersOf mem .spaces ≤ target) ⊎ (numbersOf mem .spaces ≤ source))))
 unfolding copyOut when
-copy-told mem target source =
+copy-entered mem target source =
     space-by-cases (λ (out : Left Reply). Both (out .reply .answer)) (refuse mem) mem _
     (λ bad. (
       (λ e. bad, λ b. refl),

@@ -1,5 +1,5 @@
--- A refusal's value is 0: where the answer of a call of a space is not 0, a reply has the value 0, a reply with an entry no entry, and all that a
--- space says of itself is zeros. What is added, the visits of a search that found nothing, is answered all the same.
+-- A refusal's value is 0: where the answer of a call of a space is not 0, a reply has the value 0, a reply with an entry no entry, and all
+-- that a space says of itself is zeros. What is added, the visits of a search that found nothing, is answered all the same.
 use mathlib.Core.Bool.{not}
 use mathlib.Core.List.{List}
 use mathlib.Core.Logic.{_≢_}

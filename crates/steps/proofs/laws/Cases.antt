@@ -1,4 +1,5 @@
--- A choice by cases: what holds of either way holds of the choice. A chain of choices, link by link. And an answer that is given exactly in its case.
+-- A choice by cases: what holds of either way holds of the choice. A chain of choices, link by link. And an answer that is given exactly in
+-- its case.
 use mathlib.Core.Bool.{Bool, true, false, not}
 use mathlib.Core.Logic.{_↔_, _≢_}
 use mathlib.Core.Path.{_≡_, refl, sym, ap, _∙_}

@@ -1,12 +1,12 @@
--- What the contract of each call says is one equation whose right side speaks of the input alone:
--- `r ≡ theOut (now (mem .entry)) ..` where nothing is lent to be changed, `record { reply = r; memory = now (mem .exit) } ≡ theOut ..` where
--- the memory is, `record { reply = r; area = now (area .exit) } ≡ theOut ..` where an area is (get_children, get_derivation_tree,
--- peek_notifications, write_reason), and the one inside the other where both are (drain_notifications). Two results that keep a contract on
--- one input are therefore equal, in answer, memory and area.
+-- What the contract of each call says is one equation whose right side speaks of the input alone: `r ≡ theOut (now (mem .entry)) ..` where
+-- nothing is lent to be changed, `record { reply = r; memory = now (mem .exit) } ≡ theOut ..` where the memory is, `record { reply = r;
+-- area = now (area .exit) } ≡ theOut ..` where an area is (get_children, get_derivation_tree, peek_notifications, write_reason), and the
+-- one inside the other where both are (drain_notifications). Two results that keep a contract on one input are therefore equal, in answer,
+-- memory and area.
 use mathlib.Core.List.{List}
 use mathlib.Core.Path.{_≡_, sym, ap, _∙_}
 use Prim.Native.Nat.{ℕ}
-use Rattle.steps.specs.Replies.{Left, Listed}
+use Rattle.steps.specs.Replies.{Left, WithArea}
 use Rattle.steps.specs.declared.Reply.{Reply}
 
 -- A reading call: A is the type of its answer.
@@ -23,8 +23,9 @@ one-result out a b left after p q =
 
 -- A call that is lent an area.
 pub one-list :
-    (out : Listed) (a b : Reply) (left after : List ℕ) → record { reply = a; area = left } ≡ out → record { reply = b; area = after } ≡ out
+    (out : WithArea) (a b : Reply) (left after : List ℕ) → record { reply = a; area = left } ≡ out
+    → record { reply = b; area = after } ≡ out
     → (a ≡ b) × (left ≡ after)
 one-list out a b left after p q =
     let same = one-answer out _ _ p q in
-    (ap (λ (l : Listed). l .reply) same, ap (λ (l : Listed). l .area) same)
+    (ap (λ (l : WithArea). l .reply) same, ap (λ (l : WithArea). l .area) same)

@@ -103,7 +103,7 @@ module _ (d : Numbers) (mem : List ℕ) (sound : SoundAt d mem) where
       differ = sound .ids-differ;
       issued = sound .ids-issued;
       linked = sound .linked;
-      has-list = sound .listed;
+      has-list = sound .has-list;
       short = sound .short;
       cascaded = sound .cascaded;
     };
@@ -145,7 +145,7 @@ module _ (d : Numbers) (mem : List ℕ) (sound : SoundAt d mem) where
         recycled-issued = rw (is-m, is-rg, is-next) (rules .recycled .issued);
         recycled-fit = rw is-m recycled-fit;
         linked = rw (is-n, is-rg) (rules .registered .linked);
-        listed = rw (is-n, is-rg) (rules .registered .has-list);
+        has-list = rw (is-n, is-rg) (rules .registered .has-list);
         short = rw (is-n, is-rg) (rules .registered .short);
         cascaded = rw (is-n, is-rg) (rules .registered .cascaded);
         pairs-coded = rw (apart .logged, apart .same-log) (sound .pairs-coded);

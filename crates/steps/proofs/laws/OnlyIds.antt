@@ -42,7 +42,8 @@ module _ (d : Numbers) (mem : List ℕ) (sound : SoundAt d mem) where
         same-spaces = ch .same-space;
         same-columns = λ i l.
             ap (λ ws. getD ws i 0) (ch .new-registry)
-            ∙ taken-columns (d .places) (recycledOf mem) (view d registry mem) some (sound .recycled-fit) (registry-words d mem (sound .long-enough)) i l;
+            ∙ taken-columns (d .places) (recycledOf mem) (view d registry mem) some (sound .recycled-fit)
+            (registry-words d mem (sound .long-enough)) i l;
         same-head = λ i l n k. ch .same-word i l k;
         same-log = ch .apart .same-log;
         same-queue = ch .apart .same-queue;

@@ -52,7 +52,8 @@ module _ (d : Numbers) (mem : List ℕ) (sound : SoundAt d mem) where
         registry-changed d mem (sound .long-enough) (registered (d .places) n id object link) 11 (n + 1) (omega arith) (omega arith)
         (length-registered (d .places) n id object link rg room long)
 
-    pub register-step-kept : Free d mem id → Parent (d .places) (registeredOf mem) link (view d registry mem) → Kept d mem (registerStep d id object link mem)
+    pub register-step-kept : Free d mem id → Parent (d .places) (registeredOf mem) link (view d registry mem)
+        → Kept d mem (registerStep d id object link mem)
     register-step-kept free parent =
         registered-changed-kept d mem sound _ _ _ register-step (omega arith)
         (registered-keeps (d .places) n id object link rg room long m next (spacesWith d mem) rules (free .positive) (free .issued)
@@ -123,7 +124,8 @@ module _ (d : Numbers) (mem : List ℕ) (sound : SoundAt d mem) where
   -- ---- the children of a place that nothing needs leave
 
   module _ (p : ℕ) (inside : p < registeredOf mem) where
-    pub collect-step : RegistryChanged d (collected (d .places) p n rg .words) 11 (collected (d .places) p n rg .left) mem (collectStep d p mem)
+    pub collect-step : RegistryChanged d (collected (d .places) p n rg .words) 11 (collected (d .places) p n rg .left) mem
+        (collectStep d p mem)
     unfolding collectStep
     collect-step =
         registry-changed d mem (sound .long-enough) (λ ws. collected (d .places) p n ws .words) 11 (collected (d .places) p n rg .left)

@@ -125,7 +125,7 @@ module _ (d : Numbers) (mem : List ℕ) (sound : SoundAt d mem) where
             differ = sound .ids-differ;
             issued = λ k l. omega (arith, sound .ids-issued k l);
             linked = sound .linked;
-            has-list = sound .listed;
+            has-list = sound .has-list;
             short = sound .short;
             cascaded = sound .cascaded;
           };

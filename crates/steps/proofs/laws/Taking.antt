@@ -17,7 +17,8 @@ use Rattle.steps.specs.declared.Taken.{Taken}
 use Rattle.steps.specs.declared.Taken.the-variants.{Id, Exhausted}
 
 module _ (d : Numbers) (mem : List ℕ) where
-  pub takes-recycled : (between : List ℕ) (id : ℕ) → 0 < recycledOf mem → between ≡ onRegion d registry (firstTaken (d .places) (recycledOf mem)) mem
+  pub takes-recycled : (between : List ℕ) (id : ℕ) → 0 < recycledOf mem
+      → between ≡ onRegion d registry (firstTaken (d .places) (recycledOf mem)) mem
       → id ≡ recycled d mem 0 → (set between 12 (recycledOf mem - 1) ≡ takeStep d mem) × (Id id ≡ takenId d mem)
   unfolding takeStep takenId
   takes-recycled between id some taken is = rw (lt-ltb 0 (recycledOf mem) some, taken, is) (refl, refl)

@@ -1,5 +1,4 @@
 -- `main` is safe and ends: each turn takes one of the streams left, and leaves both arrays as long as they are.
--- Assumes nothing.
 use mathlib.Core.Path.{_≡_}
 use borrow.Author.Needs.{needs}
 use lib.ListN.{length}

@@ -1,5 +1,4 @@
 -- `print_lines` is safe and ends: the stream lies within the records, and what a run says that it wrote within the lines.
--- Assumes nothing.
 use mathlib.Core.Path.{sym}
 use native.Mathlib.Omega.{arith}
 use borrow.Author.Needs.{needs}

@@ -10,7 +10,7 @@ use lib.ListN.{length}
 use Rattle.base.specs.Below.{one}
 use Rattle.base.specs.SumLaws.{sum-zero}
 use Rattle.table.specs.Slots.{isLive, idOf, entryAt}
-use Rattle.table.specs.Insert.{slotsFor, Table, holds, gathered, listed, insertNew, none}
+use Rattle.table.specs.Insert.{slotsFor, Table, holds, gathered, scratchEntries, insertNew, none}
 use Rattle.table.specs.Copy.{fresh, insertAll, copied}
 use Rattle.table.specs.Sound.{Sound}
 use Rattle.table.specs.declared.CapabilityEntry.{CapabilityEntry}
@@ -63,7 +63,8 @@ module _
     copying-more i u l live c =
         record {
           sound = insert-keeps-sound most (u .words) (u .counts) e (c .sound) more lacks rights fits;
-          full = insert-full most (u .words) (u .counts) e (c .sound) more lacks rights fits ∙ omega (arith, c .full, live-next source i live);
+          full = insert-full most (u .words) (u .counts) e (c .sound) more lacks rights fits
+              ∙ omega (arith, c .full, live-next source i live);
           holds = λ x.
               holds-taken fresh source i x live (c .holds x)
               (insert-holds-old-and-new most (u .words) (u .counts) e (c .sound) more lacks rights fits x);
@@ -129,7 +130,7 @@ module _
 pub gathered-copied :
     (source target kept zeros : List ℕ) (slots count : ℕ) → 4 * slots ≤ length zeros
     → holds kept count ≡ gathered source 0 slots (holds zeros 0)
-    → insertAll (listed kept 0 count) (record { words = target; counts = none; moved = 0 }) ≡ copied source slots target
+    → insertAll (scratchEntries kept 0 count) (record { words = target; counts = none; moved = 0 }) ≡ copied source slots target
 unfolding copied
 gathered-copied source target kept zeros slots count fits filled =
     ap (λ es. insertAll es (record { words = target; counts = none; moved = 0 })) (gathered-live source kept zeros slots count fits filled)

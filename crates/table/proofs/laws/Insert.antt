@@ -31,7 +31,8 @@ record Roomy (most : ℕ) (ws : List ℕ) (t : CapTable) (r : Table) : Type 0 wh
   long : length (r .words) ≡ length ws
   holds : (x : CapabilityEntry) → Holds (r .words) (r .counts .slots) x ↔ Holds ws (t .slots) x
 
-module _ (most : ℕ) (ws : List ℕ) (t : CapTable) (sound : Sound most ws t) (more : t .full < most) (long : 4 * slotsFor most ≤ length ws) where
+module _ (most : ℕ) (ws : List ℕ) (t : CapTable) (sound : Sound most ws t) (more : t .full < most)
+    (long : 4 * slotsFor most ≤ length ws) where
   made-roomy : Roomy most ws t (madeRoom ws t)
   unfolding madeRoom crowded
   made-roomy = go (crowded t) refl
@@ -87,7 +88,8 @@ module _
       unfolding placed
       placed-sound =
           structure-sound most _ _
-          (placing-keeps (r .words) (r .counts .slots) (r .counts .full) (r .counts .tombstones) _ e (roomy .structure) place fits rights still-lacks)
+          (placing-keeps (r .words) (r .counts .slots) (r .counts .full) (r .counts .tombstones) _ e
+          (roomy .structure) place fits rights still-lacks)
           (roomy .capacity) (omega (arith, roomy .room)) (omega arith) (omega (arith, roomy .full))
 
       placed-holds : (x : CapabilityEntry) → Holds (placed r e .words) (placed r e .counts .slots) x ↔ (Holds ws (t .slots) x ⊎ (x ≡ e))

@@ -109,7 +109,8 @@ module _ (most : ℕ) (h : History) (p : Paid most h) where
   unfolding removeAt
   remove-paid id (At i) found =
       let (l, live, same) = search-at (h .words) (h .counts .slots) id i found in
-      let fits : 4 * h .counts .slots ≤ length (h .words) = omega (arith, p .long, capacity-le most (h .counts .slots) (p .sound .capacity)) in
+      let fits : 4 * h .counts .slots ≤ length (h .words) =
+      omega (arith, p .long, capacity-le most (h .counts .slots) (p .sound .capacity)) in
       on-paid (removedAt (h .words) (h .counts) i) 0 (remove-keeps-sound most (h .words) (h .counts) i (p .sound) l live fits)
       (remove-length most (h .words) (h .counts) i (p .sound) l live fits)
       (omega (arith, remove-pays (h .words) (h .counts) i live))
@@ -119,7 +120,8 @@ module _ (most : ℕ) (h : History) (p : Paid most h) where
   unfolding after
   call-paid (insert e rights) = insert-paid e (search (h .words) (h .counts .slots) (idOf e) .found) rights refl
   call-paid (remove id) = remove-paid id (search (h .words) (h .counts .slots) id .found) refl
-  call-paid clear = on-paid (record { words = h .words; counts = none; moved = 0 }) 0 (none-sound most (h .words)) refl (omega (arith, none-pays))
+  call-paid clear = on-paid (record { words = h .words; counts = none; moved = 0 }) 0
+      (none-sound most (h .words)) refl (omega (arith, none-pays))
   call-paid (copy source t sound) =
       on-paid (copied source (t .slots) (h .words)) (length (liveEntries source 0 (t .slots)))
       (copy-is-sound most source t (h .words) sound (p .long))

@@ -41,7 +41,8 @@ nth-from ws (suc n) a i m l u live e = by-cases (ℕ-discrete a i) here (λ d. l
 
     later :
         ¬ (a ≡ i) → (b : Bool) → isLive ws a ≡ b
-        → ((m : ℕ) → suc a ≤ i → i < suc a + n → isLive ws i ≡ true → liveIn ws i ≡ liveIn ws (suc a) + m → nthOf rest m ≡ Entry (entryAt ws i))
+        → ((m : ℕ) → suc a ≤ i → i < suc a + n → isLive ws i ≡ true → liveIn ws i ≡ liveIn ws (suc a) + m
+        → nthOf rest m ≡ Entry (entryAt ws i))
         → nthOf (pick b (entryAt ws a ∷ rest) rest) m ≡ Entry (entryAt ws i)
     later d true taken ih =
         let next = live-next ws a taken in

@@ -130,7 +130,8 @@ module _
 
 -- ---- a sound table, rebuilt with room for one entry more
 
-module _ (most : ℕ) (ws : List ℕ) (t : CapTable) (sound : Sound most ws t) (more : t .full < most) (long : 4 * slotsFor most ≤ length ws) where
+module _ (most : ℕ) (ws : List ℕ) (t : CapTable) (sound : Sound most ws t) (more : t .full < most)
+    (long : 4 * slotsFor most ≤ length ws) where
   few : t .full ≤ roomFor (t .full)
   few = omega (arith, room-fits (t .full))
 

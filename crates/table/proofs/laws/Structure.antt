@@ -151,7 +151,8 @@ module _ (ws : List ℕ) (slots id live removed : ℕ) (st : Structure ws slots 
         }
 
 module _
-    (ws : List ℕ) (slots live removed i : ℕ) (e : CapabilityEntry) (st : Structure ws slots live removed) (place : Place ws slots (idOf e) i)
+    (ws : List ℕ) (slots live removed i : ℕ) (e : CapabilityEntry) (st : Structure ws slots live removed)
+    (place : Place ws slots (idOf e) i)
     (long : 4 * slots ≤ length ws) (rights : e .rights .0 < 2 ^ 32) (lacks : Lacks ws slots (idOf e))
   where
     pub placing-keeps : Structure (putEntry ws i e) slots (live + 1) (removed - one (isRemoved ws i))
@@ -160,7 +161,11 @@ module _
           coded = coded-stays ws vs slots i others (omega (arith, entry-kind ws i e fits rights)) (st .coded);
           live-agrees =
               omega (arith, live-changes ws vs slots i others (place .below), ap one (place .free), ap one (entry-live ws i e fits rights));
-          removed-agrees = omega (arith, removed-changes ws vs slots i others (place .below), ap one (entry-not-removed ws i e fits rights));
+          removed-agrees = omega (
+            arith,
+            removed-changes ws vs slots i others (place .below),
+            ap one (entry-not-removed ws i e fits rights),
+          );
           differ = λ j k lj lk hj hk same.
               by-cases (ℕ-discrete j i)
               (λ ej. by-cases (ℕ-discrete k i) (λ ek. omega arith) (λ dk. absurd (old-id k lk dk hk (sym same ∙ rw ej here))))
@@ -219,7 +224,12 @@ module _
           coded = coded-stays ws vs slots i others (omega (arith, mark-kind ws i fits)) (st .coded);
           live-agrees = omega (arith, live-changes ws vs slots i others below, ap one lives, ap one (mark-not-live ws i fits));
           removed-agrees =
-              omega (arith, removed-changes ws vs slots i others below, ap one (live-not-removed ws i lives), ap one (mark-removed ws i fits));
+              omega (
+                arith,
+                removed-changes ws vs slots i others below,
+                ap one (live-not-removed ws i lives),
+                ap one (mark-removed ws i fits),
+              );
           differ = λ j k lj lk hj hk same. st .differ j k lj lk (old j hj) (old k hk) (sym (mark-id ws i j) ∙ same ∙ mark-id ws i k);
           met = λ j l h. met-stays ws vs slots i others (mark-not-empty ws i fits) j (mark-id ws i j) (st .met j l (old j h));
         }

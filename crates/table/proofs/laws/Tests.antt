@@ -97,7 +97,17 @@ unfolding soundTest
 sound-exactly most ws t =
     let live-exactly = eqb-exactly (liveIn ws (t .slots)) in
     let removed-exactly = eqb-exactly (removedIn ws (t .slots)) in
-    simp (both-exactly, coded-exactly ws, capacity-exactly, live-exactly, removed-exactly, room-exactly t, unused-exactly t, within-exactly, found-exactly ws) (
+    simp (
+      both-exactly,
+      coded-exactly ws,
+      capacity-exactly,
+      live-exactly,
+      removed-exactly,
+      room-exactly t,
+      unused-exactly t,
+      within-exactly,
+      found-exactly ws,
+    ) (
       λ (coded, (capacity, ((live, removed), (room, (unused, (within, (differ, met))))))).
           record {
             coded = coded;

@@ -39,11 +39,11 @@ used : List ℕ → ℕ → ℕ
 used ws i = one (isLive ws i) + one (isRemoved ws i)
 
 -- A kind that is listed and not empty is live or removed.
-listed-in-use : (kind : ℕ) → kind ≤ 2 → eqb kind 0 ≡ false → 1 ≤ one (eqb kind 2) + one (eqb kind 1)
-listed-in-use zero l e = absurd (true≢false e)
-listed-in-use (suc zero) l e = omega arith
-listed-in-use (suc (suc zero)) l e = omega arith
-listed-in-use (suc (suc (suc k))) l e = absurd (omega arith)
+scratch-in-use : (kind : ℕ) → kind ≤ 2 → eqb kind 0 ≡ false → 1 ≤ one (eqb kind 2) + one (eqb kind 1)
+scratch-in-use zero l e = absurd (true≢false e)
+scratch-in-use (suc zero) l e = omega arith
+scratch-in-use (suc (suc zero)) l e = omega arith
+scratch-in-use (suc (suc (suc k))) l e = absurd (omega arith)
 
 -- A walk that has passed k slots, none of them empty, has passed k live or removed entries.
 passed-le :
@@ -53,7 +53,7 @@ unfolding used walk
 passed-le ws slots id k coded pos le passed =
     let met : ℕ → ℕ = λ s. used ws (walk id slots s) in
     let each : (s : ℕ) → s < k → 1 ≤ met s =
-    λ s l. let i = walk id slots s in listed-in-use (kindAt ws i) (coded i (walk-lt id slots s pos)) (passed s l) in
+    λ s l. let i = walk id slots s in scratch-in-use (kindAt ws i) (coded i (walk-lt id slots s pos)) (passed s l) in
     omega (
       arith,
       sum-one-all (λ s. true) k (λ s l. refl),

@@ -1,4 +1,4 @@
--- `table_probe::put` meets its contract: its four stores are the definition's. Assumes nothing.
+-- `table_probe::put` meets its contract: its four stores are the definition's.
 use borrow.Author.Needs.{needs}
 use Rattle.table_probe.specs.Numbers.{entryWords}
 use Rattle.table_probe.proofs.put.Statement.{statement}

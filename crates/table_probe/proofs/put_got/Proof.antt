@@ -1,4 +1,4 @@
--- `put_got` meets its contract: each arm's answer is the definition's for the arm's case. Assumes nothing.
+-- `put_got` meets its contract: each arm's answer is the definition's for the arm's case.
 use mathlib.Core.Bool.{true, false}
 use mathlib.Core.List.{List}
 use mathlib.Core.Path.{_≡_}

@@ -1,4 +1,4 @@
--- `table_probe_copy_from` meets its contract: it is the call, with the table kept in its numbers. Assumes nothing.
+-- `table_probe_copy_from` meets its contract: it is the call, with the table kept in its numbers.
 use borrow.Author.Needs.{needs}
 use Rattle.table_probe.proofs.table_probe_copy_from.Statement.{statement}
 use Rattle.table_probe.proofs.table_probe_copy_from.Tie as tie

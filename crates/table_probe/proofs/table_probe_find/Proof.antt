@@ -1,4 +1,4 @@
--- `table_probe_find` meets its contract: each arm's answer is the definition's for the arm's case. Assumes nothing.
+-- `table_probe_find` meets its contract: each arm's answer is the definition's for the arm's case.
 use Prim.Native.Nat.{ℕ, _-_, _^_}
 use mathlib.Core.Path.{_≡_}
 use borrow.Author.Needs.{needs}

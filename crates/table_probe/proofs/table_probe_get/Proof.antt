@@ -1,4 +1,4 @@
--- `table_probe_get` meets its contract: it is the call, with its answer put into the four words. Assumes nothing.
+-- `table_probe_get` meets its contract: it is the call, with its answer put into the four words.
 use mathlib.Core.Bool.{Bool}
 use mathlib.Core.List.{List}
 use mathlib.Core.Path.{_≡_}

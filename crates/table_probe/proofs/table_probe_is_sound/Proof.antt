@@ -1,4 +1,4 @@
--- `table_probe_is_sound` meets its contract: it is the call, with the table read from its numbers. Assumes nothing.
+-- `table_probe_is_sound` meets its contract: it is the call, with the table read from its numbers.
 use borrow.Author.Needs.{needs}
 use Rattle.table_probe.proofs.table_probe_is_sound.Statement.{statement}
 use Rattle.table_probe.proofs.table_probe_is_sound.Tie as tie

@@ -1,4 +1,4 @@
--- `table_probe_remove_at` meets its contract: it is the call, with the table read from its numbers and kept in them. Assumes nothing.
+-- `table_probe_remove_at` meets its contract: it is the call, with the table read from its numbers and kept in them.
 use mathlib.Core.Bool.{Bool}
 use mathlib.Core.List.{List}
 use mathlib.Core.Path.{_≡_, ap}

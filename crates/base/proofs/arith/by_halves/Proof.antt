@@ -18,9 +18,19 @@ halves : (h a1 a0 b1 b0 : ℕ) → 0 < h
     → ((a1 * b0 % h + a0 * b1 % h + a0 * b0 / h) % h) * h + a0 * b0 % h ≡ ((a1 * h + a0) * (b1 * h + b0)) % (h * h)
 halves h a1 a0 b1 b0 pos =
     let low : ℕ = a0 * b0 in
-    let two : (a1 * h + a0) * (b1 * h + b0) ≡ (a1 * b1 * h + (a1 * b0 + a0 * b1 + low / h)) * h + low % h = omega (arith, div-add-mod' low h) in
+    let two : (a1 * h + a0) * (b1 * h + b0) ≡ (a1 * b1 * h + (a1 * b0 + a0 * b1 + low / h)) * h + low % h =
+    omega (arith, div-add-mod' low h) in
     let r : low % h < h = mod-lt low pos in
-    rw (two, mod-mul, digits-div, mul-add-mod-self-right (a1 * b1), digits-mod, ← mod-add-mod (a1 * b0 + a0 * b1), add-mod (a1 * b0), mod-add-mod (a1 * b0 % h + a0 * b1 % h))
+    rw (
+      two,
+      mod-mul,
+      digits-div,
+      mul-add-mod-self-right (a1 * b1),
+      digits-mod,
+      ← mod-add-mod (a1 * b0 + a0 * b1),
+      add-mod (a1 * b0),
+      mod-add-mod (a1 * b0 % h + a0 * b1 % h),
+    )
 
 mul-low : tie.Need-mul-low
 mul-low c = record { fits = word _ _ (omega arith) (omega arith) }

@@ -1,4 +1,4 @@
--- `base::arith::wrapping_mul` meets its contract: the factors may change places. Assumes nothing.
+-- `base::arith::wrapping_mul` meets its contract: the factors may change places.
 use native.Mathlib.Nat.{mul-comm}
 use borrow.Author.Needs.{needs}
 use Rattle.base.proofs.arith.wrapping_mul.Statement.{statement}

@@ -25,7 +25,10 @@ mul-result c = record { fits = word _ _ (shr-lt 32 32 (c .wrapping-mul .ok)) (om
 
 returns : tie.Need-returns
 unfolding bucketOf
-returns c = (ap (λ p. p / 2 ^ 32 * c .before .args .n / 2 ^ 32) (c .wrapping-mul .ensures), share _ _ (shr-lt 32 32 (c .wrapping-mul .ok)) (omega arith))
+returns c = (
+  ap (λ p. p / 2 ^ 32 * c .before .args .n / 2 ^ 32) (c .wrapping-mul .ensures),
+  share _ _ (shr-lt 32 32 (c .wrapping-mul .ok)) (omega arith),
+)
 
 pub bucket-spec : {M : Type 1} → statement M
 bucket-spec = tie.close (tie.spec (λ c κs. search needs) mul-result returns)

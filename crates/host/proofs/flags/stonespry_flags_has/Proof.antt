@@ -14,7 +14,8 @@ use Rattle.host.proofs.flags.stonespry_flags_has.Statement.{statement}
 use Rattle.host.proofs.flags.stonespry_flags_has.Tie as tie
 
 module _ (flags : ℕ) (found wanted : Named) (told : found ≡ wanted) where
-  given : (perm : CapabilityFlags) (b : Bool) → found ≡ Flag perm → b ≡ hasFlag flags perm → record { answer = 0; has = b } ≡ hasAnswer flags wanted
+  given : (perm : CapabilityFlags) (b : Bool) → found ≡ Flag perm → b ≡ hasFlag flags perm
+      → record { answer = 0; has = b } ≡ hasAnswer flags wanted
   unfolding hasAnswer
   given perm b is has = rw (sym told ∙ is, has)
 

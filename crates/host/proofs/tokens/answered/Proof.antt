@@ -11,7 +11,8 @@ use Rattle.host.specs.Answered.{tokenAnswer}
 use Rattle.host.proofs.tokens.answered.Statement.{statement}
 use Rattle.host.proofs.tokens.answered.Tie as tie
 
-given : (made : Made) (token : CapabilityToken) (word : ℕ) → made ≡ Token token → word ≡ token .0 → record { answer = 0; token = word } ≡ tokenAnswer made
+given : (made : Made) (token : CapabilityToken) (word : ℕ) → made ≡ Token token → word ≡ token .0
+    → record { answer = 0; token = word } ≡ tokenAnswer made
 unfolding tokenAnswer
 given made token word is number = rw (is, number)
 

@@ -12,7 +12,7 @@ use Rattle.base.specs.Choose.{when-yes, when-no}
 use Rattle.base.specs.Written.{written}
 use Rattle.registry.specs.Children.{childIds}
 use Rattle.steps.proofs.Entering.{world-refusal, world-call, world-ready}
-use Rattle.steps.proofs.Leaving.{listed-is}
+use Rattle.steps.proofs.Leaving.{area-is}
 use Rattle.steps.specs.Replies.{done}
 use Rattle.steps.specs.Steps.{childrenOf}
 use Rattle.world.specs.Numbers.{registeredOf}
@@ -54,7 +54,7 @@ returns : tie.Need-returns
 unfolding childrenOut
 returns c =
     let seen = c .before .before .before in
-    listed-is (c .refusal2 .ensures) refl
+    area-is (c .refusal2 .ensures) refl
     (world-call _ _ (seen .before .before .enter-world .ensures) _ (seen .d .given .1) _ _
     ∙ when-yes _ _ _ (le-leb _ _ (c .before .if1 .taken)))
 
@@ -66,7 +66,7 @@ returns-2 c =
     let seen = finds .before .before .before in
     let mem : List ℕ = now (seen .before .before .before .before .before .args .mem) in
     let counted = counts .child-count .ensures ∙ ap (childrenOf (seen .d .given .0 .0) mem) (finds .place-of .ensures .0) in
-    listed-is (c .refusal3 .ensures) refl
+    area-is (c .refusal3 .ensures) refl
     (world-call _ _ (seen .before .before .enter-world .ensures) _ (seen .d .given .1) _ _
     ∙ when-no _ _ _ (lt-leb _ _ (finds .before .if1 .left)) ∙ when-yes _ _ _ (ap not (short-area _ _ _ counted (c .before .if2 .taken))))
 
@@ -74,7 +74,7 @@ returns-3 : tie.Need-returns-3
 unfolding childrenOut
 returns-3 c =
     let seen = c .before .before in
-    listed-is (c .refusal .ensures) refl (world-refusal _ _ (seen .before .before .enter-world .ensures) _ _ _ (seen .answer .given .1))
+    area-is (c .refusal .ensures) refl (world-refusal _ _ (seen .before .before .enter-world .ensures) _ _ _ (seen .answer .given .1))
 
 returns-4 : tie.Need-returns-4
 unfolding childrenOut
@@ -89,7 +89,7 @@ returns-4 c =
     let mem : List ℕ = now (begun .mem) in
     let place = finds .place-of .ensures .0 in
     let counted = counts .child-count .ensures ∙ ap (childrenOf d mem) place in
-    listed-is (c .done .ensures ∙ ap done counted)
+    area-is (c .done .ensures ∙ ap done counted)
     (lists .list-children .ensures
     ∙ ap (λ p. written (childIds (d .places) p (registeredOf mem) (view d registry mem)) (now (begun .area))) place)
     (world-call _ _ (seen .before .before .enter-world .ensures) _ (seen .d .given .1) _ _

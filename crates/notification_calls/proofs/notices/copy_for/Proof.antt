@@ -10,7 +10,7 @@ use lib.ListN.{length}
 use Rattle.base.specs.Written.{written}
 use Rattle.revocation.specs.Queue.{notices}
 use Rattle.steps.proofs.laws.Ready.{queues-ready-at}
-use Rattle.steps.proofs.Leaving.{listed-is}
+use Rattle.steps.proofs.Leaving.{area-is}
 use Rattle.steps.specs.Ready.{QueuesReady}
 use Rattle.steps.specs.Replies.{done}
 use Rattle.world.specs.Regions.{queue, view}
@@ -54,7 +54,7 @@ returns c =
     let copy = c .before .before .before in
     let begun = copy .before .before .before .before .before in
     let given = begun .args in
-    listed-is (c .done .ensures) (copy .copy-notices .ensures)
+    area-is (c .done .ensures) (copy .copy-notices .ensures)
     (copied (given .d) (now (given .mem)) (given .q) (given .count) (now (given .area)) (begun .pre .1)
     (copy .before .before .if1 .taken))
 
@@ -62,7 +62,7 @@ returns-2 : tie.Need-returns-2
 returns-2 c =
     let begun = c .before .before .before .before in
     let given = begun .args in
-    listed-is (c .done2 .ensures) refl
+    area-is (c .done2 .ensures) refl
     (stays (given .d) (now (given .mem)) (given .q) (given .count) (now (given .area)) (begun .pre .1)
     (c .before .if1 .left))
 

@@ -9,9 +9,9 @@ use Rattle.answers.specs.declared.Answer.the-variants.{BadField}
 use Rattle.base.specs.Choose.{when-yes, when-no}
 use Rattle.revocation_steps.specs.Revocation.{queueFor}
 use Rattle.steps.proofs.Entering.{world-refusal, world-call, world-ready, world-sound}
-use Rattle.steps.proofs.Leaving.{left-is, listed-is}
+use Rattle.steps.proofs.Leaving.{left-is, area-is}
 use Rattle.steps.specs.Enter.{enteredWorld}
-use Rattle.steps.specs.Replies.{Left, Listed, refusal}
+use Rattle.steps.specs.Replies.{Left, WithArea, refusal}
 use Rattle.steps.specs.declared.Entered.{Entered}
 use Rattle.steps.specs.declared.Entered.the-variants.{Good}
 use Rattle.world.specs.declared.Numbers.{Numbers}
@@ -36,7 +36,7 @@ module _ (mem : List ℕ) (r : Entered) (seen : r ≡ enteredWorld mem) (d : Num
     drains l =
         world-call mem r seen d good _ _
         ∙ when-no _ _ _ (area-long d mem pid q is-queue count counted (length area) l)
-        ∙ ap {B = Left Listed} (λ q. record { reply = peeked d mem q area; memory = without d mem q }) (sym is-queue)
+        ∙ ap {B = Left WithArea} (λ q. record { reply = peeked d mem q area; memory = without d mem q }) (sym is-queue)
 
 queue-for-requires : tie.Need-queue-for-requires
 queue-for-requires c κs =
@@ -76,7 +76,7 @@ returns c =
     let place = counts .before .before in
     let seen = place .before .before .before in
     let entered = seen .before .before .enter-world .ensures in
-    left-is (listed-is (c .refusal2 .ensures) refl refl) refl
+    left-is (area-is (c .refusal2 .ensures) refl refl) refl
     (too-short _ _ entered _ (seen .d .given .1) _ _ _ (place .queue-for .ensures .0) _ (counts .count-for .ensures)
     (c .before .if1 .taken))
 
@@ -84,7 +84,7 @@ returns-2 : tie.Need-returns-2
 unfolding drainOut
 returns-2 c =
     let seen = c .before .before in
-    left-is (listed-is (c .refusal .ensures) refl refl) refl
+    left-is (area-is (c .refusal .ensures) refl refl) refl
     (world-refusal _ _ (seen .before .before .enter-world .ensures) _ _ _ (seen .answer .given .1))
 
 returns-3 : tie.Need-returns-3

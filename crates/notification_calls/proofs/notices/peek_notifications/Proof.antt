@@ -9,7 +9,7 @@ use Rattle.answers.specs.declared.Answer.the-variants.{BadField}
 use Rattle.base.specs.Choose.{when-yes, when-no}
 use Rattle.revocation_steps.specs.Revocation.{queueFor}
 use Rattle.steps.proofs.Entering.{world-refusal, world-call, world-ready, world-sound}
-use Rattle.steps.proofs.Leaving.{listed-is}
+use Rattle.steps.proofs.Leaving.{area-is}
 use Rattle.steps.specs.Enter.{enteredWorld}
 use Rattle.steps.specs.Replies.{refusal}
 use Rattle.steps.specs.declared.Entered.{Entered}
@@ -67,7 +67,7 @@ returns c =
     let counts = c .before .before in
     let seen = counts .before .before .before in
     let entered = seen .before .before .enter-world .ensures in
-    listed-is (c .refusal2 .ensures) refl
+    area-is (c .refusal2 .ensures) refl
     (too-short _ _ entered _ (seen .d .given .1) _ _ _ (counts .before .queue-for .ensures .0) _ (counts .count-for .ensures)
     (c .before .if1 .taken))
 
@@ -75,7 +75,7 @@ returns-2 : tie.Need-returns-2
 unfolding peekOut
 returns-2 c =
     let seen = c .before .before in
-    listed-is (c .refusal .ensures) refl (world-refusal _ _ (seen .before .before .enter-world .ensures) _ _ _ (seen .answer .given .1))
+    area-is (c .refusal .ensures) refl (world-refusal _ _ (seen .before .before .enter-world .ensures) _ _ _ (seen .answer .given .1))
 
 returns-3 : tie.Need-returns-3
 returns-3 c =

@@ -3,14 +3,14 @@ use mathlib.Core.Path.{refl}
 use Prim.Native.Nat.{_-_}
 use native.Mathlib.Omega.{arith}
 use borrow.Author.Needs.{needs}
-use Rattle.registry.specs.Words.{stateAt, listed}
+use Rattle.registry.specs.Words.{stateAt, hasList}
 use Rattle.registry.specs.Children.{parents}
 use Rattle.registry.proofs.Counting.{Counting, counting, counting-goes}
 use Rattle.registry.proofs.children.parents.Statement.{statement}
 use Rattle.registry.proofs.children.parents.Tie as tie
 
 abbrev Inv-loop : tie.InvT-loop
-Inv-loop rg places n count₀ k₀ count k = Counting (λ k. listed (stateAt places rg k)) n count k
+Inv-loop rg places n count₀ k₀ count k = Counting (λ k. hasList (stateAt places rg k)) n count k
 
 abbrev μ-loop : tie.MeasureT-loop
 μ-loop rg places n count₀ k₀ count k = n - k

@@ -31,7 +31,8 @@ module _ (nexts : List ℕ) (head : ℕ) (order₀ : List ℕ) (count : ℕ) whe
 
     list-ends : at ≡ 0 → take found order ≡ whole
     list-ends none =
-        sym (append-nil (take found order)) ∙ ap (λ ks. take found order ++ ks) (sym (rw none (list-empty nexts (length order₀ - found)))) ∙ appending .answer
+        sym (append-nil (take found order)) ∙ ap (λ ks. take found order ++ ks) (sym (rw none (list-empty nexts (length order₀ - found))))
+        ∙ appending .answer
 
     room-ends : length order ≤ found → take found order ≡ whole
     unfolding listFrom
@@ -50,7 +51,8 @@ module _ (nexts : List ℕ) (head : ℕ) (order₀ : List ℕ) (count : ℕ) whe
             inside = appending .inside;
             room = omega (arith, appending .same);
             same = length-set order found (at - 1) ∙ appending .same;
-            answer = rw (add-one found, take-suc-set order found (at - 1) more, append-snoc) (rw add-one at (rw (left, here) at (appending .answer)));
+            answer = rw (add-one found, take-suc-set order found (at - 1) more, append-snoc)
+                (rw add-one at (rw (left, here) at (appending .answer)));
           }
 
       here-room : at - 1 < length nexts

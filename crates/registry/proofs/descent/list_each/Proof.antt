@@ -25,7 +25,8 @@ starts : (places n : ℕ) (rg firsts nexts : List ℕ) → Linked n (linkAt plac
 starts places n rg firsts nexts linked lists =
     record { inside = omega arith; linked = linked; same-firsts = refl; same-nexts = refl; lists = lists }
 
-module _ (places n : ℕ) (rg firsts₀ nexts₀ firsts nexts : List ℕ) (at : ℕ) (listing : Listing places n rg firsts₀ nexts₀ firsts nexts at) where
+module _ (places n : ℕ) (rg firsts₀ nexts₀ firsts nexts : List ℕ) (at : ℕ)
+    (listing : Listing places n rg firsts₀ nexts₀ firsts nexts at) where
   ends : at ≤ 0 → ChildLists places n rg firsts nexts 0
   ends none = let end : at ≡ 0 = omega arith in rw end at (listing .lists)
 
@@ -62,13 +63,13 @@ module _ (places n : ℕ) (rg firsts₀ nexts₀ firsts nexts : List ℕ) (at : 
       child =
           let here : at ≡ suc (at - 1) = omega arith in
           let named : link ≡ suc (link - 1) = omega arith in
-          let listed = lists-child places n rg firsts nexts (at - 1) this so-far (listing .linked) (link - 1) named in
+          let hasList = lists-child places n rg firsts nexts (at - 1) this so-far (listing .linked) (link - 1) named in
           record {
             inside = omega (arith, this);
             linked = listing .linked;
             same-firsts = length-set firsts (link - 1) at ∙ listing .same-firsts;
             same-nexts = length-set nexts (at - 1) (getD firsts (link - 1) 0) ∙ listing .same-nexts;
-            lists = rw (← here) at listed;
+            lists = rw (← here) at hasList;
           }
 
 abbrev Inv-loop : tie.InvT-loop
@@ -84,7 +85,11 @@ mul-nexts : tie.Need-mul-nexts Inv-loop μ-loop
 mul-nexts c = omega (arith, small _ _ _ _ _ _ _ _ (c .before .before .before .loop .inv) (c .before .before .loop-test .taken))
 
 mul-firsts : tie.Need-mul-firsts Inv-loop μ-loop
-mul-firsts c = omega (arith, small _ _ _ _ _ _ _ _ (c .before .before .before .before .loop .inv) (c .before .before .before .loop-test .taken))
+mul-firsts c = omega (
+  arith,
+  small _ _ _ _ _ _ _ _ (c .before .before .before .before .loop .inv)
+      (c .before .before .before .loop-test .taken),
+)
 
 pub list-each-spec : {M : Type 1} → statement M
 list-each-spec =

@@ -21,7 +21,8 @@ module _ (places j : ℕ) (order rg ys : List ℕ) (e : marked places (drop j or
   done l = rw (drop-of-length-le order l) at e
 
 abbrev Inv-loop : tie.InvT-loop
-Inv-loop rg₀ places order j₀ rg j = (j ≤ length order) × (length rg ≡ length rg₀) × (marked places (drop j order) rg ≡ marked places order rg₀)
+Inv-loop rg₀ places order j₀ rg j = (j ≤ length order) × (length rg ≡ length rg₀)
+    × (marked places (drop j order) rg ≡ marked places order rg₀)
 
 abbrev μ-loop : tie.MeasureT-loop
 μ-loop rg₀ places order j₀ rg j = length order - j

@@ -8,7 +8,8 @@ use Rattle.registry.proofs.holders.hold_all.Statement.{statement}
 use Rattle.registry.proofs.holders.hold_all.Tie as tie
 
 abbrev Inv-loop : tie.InvT-loop
-Inv-loop rg₀ places n ids j₀ rg j = (j ≤ length ids) × (length rg ≡ length rg₀) × (heldAll places n (drop j ids) rg ≡ heldAll places n ids rg₀)
+Inv-loop rg₀ places n ids j₀ rg j = (j ≤ length ids) × (length rg ≡ length rg₀)
+    × (heldAll places n (drop j ids) rg ≡ heldAll places n ids rg₀)
 
 abbrev μ-loop : tie.MeasureT-loop
 μ-loop rg₀ places n ids j₀ rg j = length ids - j

@@ -7,7 +7,7 @@ use native.Mathlib.Numerals.{add-one}
 use native.Mathlib.Omega.{arith}
 use borrow.Author.Needs.{needs}
 use lib.ListN.{length, getD}
-use Rattle.base.specs.Listed.{fold}
+use Rattle.base.specs.Compacted.{fold}
 use Rattle.registry.specs.Counts.{AtMost, countEntry, countEntries, few-entries, length-entries}
 use Rattle.registry.proofs.look.count_entries.Statement.{statement}
 use Rattle.registry.proofs.look.count_entries.Tie as tie

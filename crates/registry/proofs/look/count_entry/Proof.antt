@@ -22,7 +22,8 @@ module _ (ids : List ℕ) (id : ℕ) (counts : List ℕ) (p : Place) (e : p ≡ 
   absent told = rw (sym e ∙ told)
 
 -- The arm of a place: it is one of the ids.
-inside : (c : tie.After-known-told) → c .before .k .given .0 .0 < length (c .before .before .before .before .before .before .before .before .args .ids .now)
+inside : (c : tie.After-known-told) → c .before .k .given .0 .0
+    < length (c .before .before .before .before .before .before .before .before .args .ids .now)
 inside c = place-holds _ _ _ (sym (c .before .before .before .place-of .ensures) ∙ c .before .k .given .1) .0
 
 mul-counts : tie.Need-mul-counts

@@ -75,7 +75,8 @@ module _ (places n next : ℕ) (rg counts₀ counts : List ℕ) (k : ℕ) (done 
         within : linkAt places rg k - 1 < length counts
         within = omega (arith, done .room, earlier places next rg k r e t)
 
-        child : getD counts (linkAt places rg k - 1) 0 < 1024 → Done places n next rg counts₀ (addOne (linkAt places rg k - 1) counts) (k + 1)
+        child : getD counts (linkAt places rg k - 1) 0 < 1024
+            → Done places n next rg counts₀ (addOne (linkAt places rg k - 1) counts) (k + 1)
         child short = record {
           inside = omega arith;
           room = simp length-set (done .room);
@@ -87,7 +88,8 @@ module _ (places n next : ℕ) (rg counts₀ counts : List ℕ) (k : ℕ) (done 
         full : 1024 ≤ getD counts (linkAt places rg k - 1) 0 → false ≡ placesTest places n next rg
         unfolding placesTest
         full long =
-            rw (sym (counted-full (linkAt places rg) k counts (done .counted) (linkAt places rg k - 1) this within n (earlier places next rg k r e t) l long))
+            rw (sym (counted-full (linkAt places rg) k counts (done .counted) (linkAt places rg k - 1) this within n
+            (earlier places next rg k r e t) l long))
             (sym (both-false (all n (placeTest places next rg))))
 
 abbrev Inv-loop : tie.InvT-loop
@@ -104,7 +106,11 @@ mul-count c = omega (arith, earlier _ _ _ _ _ (c .before .before .before .place-
 
 mul-counts : tie.Need-mul-counts Inv-loop μ-loop
 mul-counts c =
-    omega (arith, earlier _ _ _ _ _ (c .before .before .before .before .before .place-sound .ensures) (c .before .before .before .before .if1 .left))
+    omega (
+      arith,
+      earlier _ _ _ _ _ (c .before .before .before .before .before .place-sound .ensures)
+          (c .before .before .before .before .if1 .left),
+    )
 
 pub each-place-sound-spec : {M : Type 1} → statement M
 each-place-sound-spec =

@@ -9,7 +9,7 @@ use borrow.Author.Needs.{needs}
 use borrow.Author.Tests.{le-leb, lt-leb, lt-ltb, le-ltb, eq-eqb, ne-eqb}
 use lib.Dec.{leb, eqb}
 use Rattle.base.specs.Choose.{both}
-use Rattle.registry.specs.Words.{idAt, stateAt, linkAt, revoked, listed}
+use Rattle.registry.specs.Words.{idAt, stateAt, linkAt, revoked, hasList}
 use Rattle.registry.specs.Look.{placeTest}
 use Rattle.registry.proofs.look.place_sound.Statement.{statement}
 use Rattle.registry.proofs.look.place_sound.Tie as tie
@@ -32,15 +32,27 @@ module _ (places next : ℕ) (rg : List ℕ) (k : ℕ) where
       module _ (linked : linkAt places rg k ≤ k) where
         no-parent : linkAt places rg k ≡ 0 → true ≡ placeTest places next rg k
         unfolding placeTest
-        no-parent root = rw (le-leb 1 (idAt rg k) some, lt-ltb (idAt rg k) next issued, le-leb (linkAt places rg k) k linked, eq-eqb (linkAt places rg k) 0 root)
+        no-parent root = rw (
+          le-leb 1 (idAt rg k) some,
+          lt-ltb (idAt rg k) next issued,
+          le-leb (linkAt places rg k) k linked,
+          eq-eqb (linkAt places rg k) 0 root,
+        )
 
         parent : (r : Bool) → linkAt places rg k ≢ 0
-            → r ≡ both (eqb (listed (stateAt places rg (linkAt places rg k - 1))) 1) (leb (revoked (stateAt places rg (linkAt places rg k - 1))) (revoked (stateAt places rg k)))
+            → r ≡ both (eqb (hasList (stateAt places rg (linkAt places rg k - 1))) 1)
+            (leb (revoked (stateAt places rg (linkAt places rg k - 1))) (revoked (stateAt places rg k)))
             → r ≡ placeTest places next rg k
         unfolding placeTest
         parent r child e =
             let this : pred (linkAt places rg k) ≡ linkAt places rg k - 1 = omega arith in
-            rw (le-leb 1 (idAt rg k) some, lt-ltb (idAt rg k) next issued, le-leb (linkAt places rg k) k linked, ne-eqb (linkAt places rg k) 0 child, this) e
+            rw (
+              le-leb 1 (idAt rg k) some,
+              lt-ltb (idAt rg k) next issued,
+              le-leb (linkAt places rg k) k linked,
+              ne-eqb (linkAt places rg k) 0 child,
+              this,
+            ) e
 
 ruleset laws = (needs, zero-id, not-issued, later-parent, no-parent, parent)
 

@@ -43,8 +43,10 @@ returns c =
     (goes _ _ _ _ _ (omega arith) _ (indexed .0) _ differs (c .passes-sound .ensures), λ _. indexed .1 differs)
 
 returns-2 : tie.Need-returns-2
-returns-2 c =
-    (stops _ _ _ _ _ (omega arith) _ (c .before .before .before .before .before .index .ensures .0) (c .if1 .left), λ e. absurd (true≢false (sym e)))
+returns-2 c = (
+  stops _ _ _ _ _ (omega arith) _ (c .before .before .before .before .before .index .ensures .0) (c .if1 .left),
+  λ e. absurd (true≢false (sym e)),
+)
 
 pub registry-sound-spec : {M : Type 1} → statement M
 registry-sound-spec =

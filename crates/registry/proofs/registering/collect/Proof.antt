@@ -21,7 +21,8 @@ module _ (places p k left : ℕ) (rg : List ℕ) (answer : Collected) (e : colle
     unfolding collectedBelow
     stays no′ = let more : k ≡ suc (k - 1) = omega arith in rw (sym test ∙ not-true leaves no′) at (rw more at e)
 
-    goes : (rg′ : List ℕ) → not leaves ≡ false → rg′ ≡ unregistered places left (k - 1) rg → collectedBelow places p (k - 1) (left - 1) rg′ ≡ answer
+    goes : (rg′ : List ℕ) → not leaves ≡ false → rg′ ≡ unregistered places left (k - 1) rg
+        → collectedBelow places p (k - 1) (left - 1) rg′ ≡ answer
     unfolding collectedBelow
     goes rg′ yes′ h = let more : k ≡ suc (k - 1) = omega arith in rw h (rw (sym test ∙ not-false leaves yes′) at (rw more at e))
 

@@ -9,19 +9,19 @@ use borrow.Author.Needs.{needs}
 use borrow.Author.Tests.{eq-eqb, ne-eqb}
 use lib.ListN.{set}
 use lib.Seq.{set-getD}
-use Rattle.registry.specs.Words.{stateAt, listed}
+use Rattle.registry.specs.Words.{stateAt, hasList}
 use Rattle.registry.specs.Registering.{listGiven}
 use Rattle.registry.proofs.registering.give_list.Statement.{statement}
 use Rattle.registry.proofs.registering.give_list.Tie as tie
 
 module _ (places p : ℕ) (rg : List ℕ) where
-  has-list : listed (stateAt places rg p) ≡ 1 → rg ≡ listGiven places p rg
+  has-list : hasList (stateAt places rg p) ≡ 1 → rg ≡ listGiven places p rg
   unfolding listGiven
-  has-list e = rw (eq-eqb (listed (stateAt places rg p)) 1 e) (sym (set-getD rg (2 * places + p) 0))
+  has-list e = rw (eq-eqb (hasList (stateAt places rg p)) 1 e) (sym (set-getD rg (2 * places + p) 0))
 
-  gets-list : listed (stateAt places rg p) ≢ 1 → set rg (2 * places + p) (stateAt places rg p + 2) ≡ listGiven places p rg
+  gets-list : hasList (stateAt places rg p) ≢ 1 → set rg (2 * places + p) (stateAt places rg p + 2) ≡ listGiven places p rg
   unfolding listGiven
-  gets-list d = rw (ne-eqb (listed (stateAt places rg p)) 1 d)
+  gets-list d = rw (ne-eqb (hasList (stateAt places rg p)) 1 d)
 
 ruleset laws = (needs, has-list, gets-list)
 

@@ -1,7 +1,7 @@
 -- `request::calls::drain` meets its contract: the reply and the memory of a drain, without its area.
 use mathlib.Core.Path.{ap}
 use borrow.Author.Needs.{needs}
-use Rattle.steps.specs.Replies.{Left, Listed}
+use Rattle.steps.specs.Replies.{Left, WithArea}
 use Rattle.request.specs.Run.{drained}
 use Rattle.request.proofs.calls.drain.Statement.{statement}
 use Rattle.request.proofs.calls.drain.Tie as tie
@@ -9,7 +9,7 @@ use Rattle.request.proofs.calls.drain.Tie as tie
 returns : tie.Need-returns
 unfolding drained
 returns c =
-    ap (λ (out : Left Listed). record { reply = out .reply .reply; memory = out .memory })
+    ap (λ (out : Left WithArea). record { reply = out .reply .reply; memory = out .memory })
     (c .before .before .before .drain-notifications .ensures)
 
 pub drain-spec : {M : Type 1} → statement M

@@ -13,7 +13,7 @@ use Rattle.answers.specs.Number.{numberOf}
 use Rattle.answers.specs.declared.Answer.{Answer}
 use Rattle.answers.specs.declared.Answer.the-variants.{BadField}
 use Rattle.base.specs.Choose.{when-yes, when-no}
-use Rattle.steps.specs.Replies.{Left, Listed, done, refusal}
+use Rattle.steps.specs.Replies.{Left, WithArea, done, refusal}
 use Rattle.steps.specs.declared.Reply.{Reply}
 use Rattle.world.specs.Open as world
 use Rattle.request.specs.Laid.{laid-front}
@@ -22,7 +22,7 @@ use Rattle.request.proofs.run.run.Statement.{statement}
 use Rattle.request.proofs.run.run.Tie as tie
 
 -- A reply, an area and a memory.
-abbrev all : Reply → List ℕ → List ℕ → Left Listed
+abbrev all : Reply → List ℕ → List ℕ → Left WithArea
 all reply area mem = record { reply = record { reply = reply; area = area }; memory = mem }
 
 alike : (r r′ : Reply) (area area′ mem mem′ : List ℕ) → r ≡ r′ → area ≡ area′ → mem ≡ mem′ → all r area mem ≡ all r′ area′ mem′

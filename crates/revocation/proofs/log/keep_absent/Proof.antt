@@ -1,5 +1,5 @@
--- `revocation::log::keep_absent` meets its contract: one pair stays where it is; for more, what is lent is the first n pairs of the log, and
--- fresh arrays index nothing.
+-- `revocation::log::keep_absent` meets its contract: one pair stays where it is; for more, what is lent is the first n pairs of the log,
+-- and fresh arrays index nothing.
 use mathlib.Core.Path.{_≡_, sym, _∙_}
 use mathlib.Core.Bool.{Bool, true, false}
 use mathlib.Core.List.{List, [], _∷_}

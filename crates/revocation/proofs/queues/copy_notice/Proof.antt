@@ -13,7 +13,8 @@ use Rattle.revocation.proofs.queues.copy_notice.Tie as tie
 
 three-words :
     (qu area : List ℕ) (i : ℕ)
-    → set (set (set area (3 * i) (noticeIdAt qu i)) (3 * i + 1) (noticeTimeAt qu i)) (3 * i + 2) (reasonAt qu i) ≡ sets area (3 * i) (noticesFrom qu i 1)
+    → set (set (set area (3 * i) (noticeIdAt qu i)) (3 * i + 1) (noticeTimeAt qu i)) (3 * i + 2) (reasonAt qu i)
+    ≡ sets area (3 * i) (noticesFrom qu i 1)
 unfolding noticesFrom
 three-words qu area i =
     let second : 3 * i + 1 ≡ suc (3 * i) = omega arith in

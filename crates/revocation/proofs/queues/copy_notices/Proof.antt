@@ -1,5 +1,5 @@
--- `revocation::queues::copy_notices` meets its contract: with the notices from the i-th on written behind those before, the area becomes the
--- answer.
+-- `revocation::queues::copy_notices` meets its contract: with the notices from the i-th on written behind those before, the area becomes
+-- the answer.
 use mathlib.Core.Path.{_≡_, refl, _∙_}
 use mathlib.Core.List.{List}
 use Prim.Native.Nat.{ℕ, suc, _+_, _-_, _*_, _<_, _≤_}

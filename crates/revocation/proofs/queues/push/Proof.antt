@@ -11,11 +11,13 @@ use Rattle.revocation.proofs.queues.push.Statement.{statement}
 use Rattle.revocation.proofs.queues.push.Tie as tie
 
 module _ (id time reason : ℕ) (qu after : List ℕ) where
-  behind : after ≡ noticeSet (ringAt qu (lengthOf qu)) id time reason qu → lengthOf qu < 256 → set after 2 (lengthOf qu + 1) ≡ pushed id time reason qu
+  behind : after ≡ noticeSet (ringAt qu (lengthOf qu)) id time reason qu → lengthOf qu < 256
+      → set after 2 (lengthOf qu + 1) ≡ pushed id time reason qu
   unfolding pushed
   behind e room = rw (lt-ltb (lengthOf qu) 256 room, e)
 
-  over : after ≡ noticeSet (firstOf qu) id time reason qu → 256 ≤ lengthOf qu → set after 1 ((firstOf qu + 1) % 256) ≡ pushed id time reason qu
+  over : after ≡ noticeSet (firstOf qu) id time reason qu → 256 ≤ lengthOf qu
+      → set after 1 ((firstOf qu + 1) % 256) ≡ pushed id time reason qu
   unfolding pushed
   over e full = rw (le-ltb (lengthOf qu) 256 full, e)
 

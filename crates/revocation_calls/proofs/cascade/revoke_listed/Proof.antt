@@ -16,7 +16,8 @@ returns : tie.Need-returns
 returns c = left-is (c .refusal .ensures) refl (when-yes _ _ _ (lt-ltb _ _ (c .before .if1 .taken)))
 
 queues-needed-requires : tie.Need-queues-needed-requires
-queues-needed-requires c κs = ready-at _ _ (c .before .before .before .before .before .before .before .before .before .before .before .pre .0)
+queues-needed-requires c κs = ready-at _ _
+    (c .before .before .before .before .before .before .before .before .before .before .before .pre .0)
 
 returns-2 : tie.Need-returns-2
 returns-2 c =

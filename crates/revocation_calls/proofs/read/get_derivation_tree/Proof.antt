@@ -10,7 +10,7 @@ use Rattle.answers.specs.declared.Answer.the-variants.{BadField}
 use Rattle.base.specs.Choose.{when-yes, when-no}
 use Rattle.base.specs.Written.{written}
 use Rattle.steps.proofs.Entering.{world-refusal, world-call, world-ready, world-sound}
-use Rattle.steps.proofs.Leaving.{listed-is}
+use Rattle.steps.proofs.Leaving.{area-is}
 use Rattle.steps.specs.Enter.{enteredWorld}
 use Rattle.steps.specs.Replies.{done, refusal}
 use Rattle.steps.specs.Steps.{placeIn}
@@ -18,12 +18,12 @@ use Rattle.steps.specs.declared.Entered.{Entered}
 use Rattle.steps.specs.declared.Entered.the-variants.{Good}
 use Rattle.world.specs.Numbers.{registeredOf}
 use Rattle.world.specs.declared.Numbers.{Numbers}
-use Rattle.revocation_calls.specs.Calls.{descendants, listedIn, descendantsOut}
+use Rattle.revocation_calls.specs.Calls.{descendants, intoArea, descendantsOut}
 use Rattle.revocation_calls.proofs.read.get_derivation_tree.Statement.{statement}
 use Rattle.revocation_calls.proofs.read.get_derivation_tree.Tie as tie
 
-none-listed : (area : List ℕ) → listedIn [] area ≡ record { reply = done 0; area = area }
-unfolding listedIn written
+none-listed : (area : List ℕ) → intoArea [] area ≡ record { reply = done 0; area = area }
+unfolding intoArea written
 none-listed area = when-no _ _ _ (le-ltb (length area) 0 (omega arith))
 
 -- By what the code saw, r, and the place k that it found for the id.
@@ -33,12 +33,12 @@ module _ (mem : List ℕ) (r : Entered) (seen : r ≡ enteredWorld mem) (d : Num
   too-large l = world-call mem r seen d good _ _ ∙ when-yes _ _ _ (le-leb (2 ^ 48) id l)
 
   module _ (small : id < 2 ^ 48) (k : ℕ) (is-place : k ≡ placeIn d mem id) where
-    lists : descendantsOut mem id area ≡ listedIn (descendants d mem k) area
+    lists : descendantsOut mem id area ≡ intoArea (descendants d mem k) area
     unfolding descendantsOut
     lists =
         world-call mem r seen d good _ _
         ∙ when-no _ _ _ (lt-leb (2 ^ 48) id small)
-        ∙ ap (λ k. listedIn (descendants d mem k) area) (sym is-place)
+        ∙ ap (λ k. intoArea (descendants d mem k) area) (sym is-place)
 
     none : registeredOf mem ≤ k → descendantsOut mem id area ≡ record { reply = done 0; area = area }
     none over = lists ∙ rw (le-ltb k (registeredOf mem) over) (none-listed area)
@@ -61,7 +61,7 @@ list-under-requires c κs =
 returns : tie.Need-returns
 returns c =
     let seen = c .before .before .before in
-    listed-is (c .refusal2 .ensures) refl
+    area-is (c .refusal2 .ensures) refl
     (too-large _ _ (seen .before .before .enter-world .ensures) _ (seen .d .given .1) _ _ (c .before .if1 .taken))
 
 returns-2 : tie.Need-returns-2
@@ -76,14 +76,14 @@ returns-3 : tie.Need-returns-3
 unfolding descendantsOut
 returns-3 c =
     let seen = c .before .before in
-    listed-is (c .refusal .ensures) refl (world-refusal _ _ (seen .before .before .enter-world .ensures) _ _ _ (seen .answer .given .1))
+    area-is (c .refusal .ensures) refl (world-refusal _ _ (seen .before .before .enter-world .ensures) _ _ _ (seen .answer .given .1))
 
 returns-4 : tie.Need-returns-4
 returns-4 c =
     let place = c .before .before .before in
     let seen = place .before .before .before in
     let entered = seen .before .before .enter-world .ensures in
-    listed-is (c .done .ensures) refl
+    area-is (c .done .ensures) refl
     (none _ _ entered _ (seen .d .given .1) _ _ (place .before .if1 .left) _ (place .place-of .ensures .0) (c .before .if2 .left))
 
 pub get-derivation-tree-spec : {M : Type 1} → statement M

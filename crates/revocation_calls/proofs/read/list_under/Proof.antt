@@ -17,13 +17,13 @@ use Rattle.registry.specs.Descent.{descent}
 use Rattle.registry.specs.DescentLaws.{descent-first}
 use Rattle.registry.specs.PlaceLists.{AllBelow, all-below-more, all-below-later}
 use Rattle.steps.proofs.laws.Ready.{ready-at}
-use Rattle.steps.proofs.Leaving.{listed-is}
-use Rattle.steps.specs.Replies.{Listed, done, refusal}
+use Rattle.steps.proofs.Leaving.{area-is}
+use Rattle.steps.specs.Replies.{WithArea, done, refusal}
 use Rattle.world.specs.Numbers.{registeredOf}
 use Rattle.world.specs.Regions.{registry, view}
 use Rattle.world.specs.Sound.{SoundAt}
 use Rattle.world.specs.declared.Numbers.{Numbers}
-use Rattle.revocation_calls.specs.Calls.{descendants, listedIn}
+use Rattle.revocation_calls.specs.Calls.{descendants, intoArea}
 use Rattle.revocation_calls.proofs.read.list_under.Statement.{statement}
 use Rattle.revocation_calls.proofs.read.list_under.Tie as tie
 
@@ -79,16 +79,16 @@ module _ (d : Numbers) (mem : List ℕ) (r : ℕ) (order : List ℕ) (count : �
   how-many = ap length is-under ∙ ids-at-length (view d registry mem) under ∙ under-length
 
   too-short : (area : List ℕ) → length area < count - 1
-      → listedIn (descendants d mem r) area ≡ record { reply = refusal BadField; area = area }
-  unfolding listedIn
+      → intoArea (descendants d mem r) area ≡ record { reply = refusal BadField; area = area }
+  unfolding intoArea
   too-short area l = when-yes _ _ _ (ap (ltb (length area)) how-many ∙ lt-ltb (length area) (count - 1) l)
 
   lists : (area : List ℕ) → count - 1 ≤ length area
-      → listedIn (descendants d mem r) area ≡ record { reply = done (count - 1); area = written (idsAt (view d registry mem) under) area }
-  unfolding listedIn
+      → intoArea (descendants d mem r) area ≡ record { reply = done (count - 1); area = written (idsAt (view d registry mem) under) area }
+  unfolding intoArea
   lists area l =
       when-no _ _ _ (ap (ltb (length area)) how-many ∙ le-ltb (length area) (count - 1) l)
-      ∙ ap₂ {C = Listed} (λ n xs. record { reply = done n; area = written xs area }) how-many is-under
+      ∙ ap₂ {C = WithArea} (λ n xs. record { reply = done n; area = written xs area }) how-many is-under
 
 descend-requires : tie.Need-descend-requires
 descend-requires c κs =
@@ -104,7 +104,7 @@ returns : tie.Need-returns
 returns c =
     let call = c .before .before .before in
     let begun = call .before .before .before .before in
-    listed-is (c .refusal .ensures) refl
+    area-is (c .refusal .ensures) refl
     (too-short _ _ _ _ _ (finds _ _ _ _ _ (begun .pre) (c .before .before .order2 .given) (call .descend .ensures)) _
     (c .before .if1 .taken))
 
@@ -140,7 +140,7 @@ returns-2 c =
     let writes = c .before .before .before in
     let fits = writes .before .before .before .before in
     let call = fits .before .before in
-    listed-is (c .done .ensures) (writes .ids-at .ensures)
+    area-is (c .done .ensures) (writes .ids-at .ensures)
     (lists _ _ _ _ _
     (finds _ _ _ _ _ (call .before .before .before .before .pre) (fits .before .order2 .given) (call .descend .ensures)) _
     (fits .if1 .left))

@@ -11,9 +11,9 @@ use Rattle.base.specs.Choose.{when-yes, when-no}
 use Rattle.base.specs.Written.{written}
 use Rattle.revocation.specs.Reason.{reasonOf, nameOf}
 use Rattle.revocation.specs.declared.RevocationReason.{RevocationReason}
-use Rattle.steps.proofs.Leaving.{listed-is}
-use Rattle.steps.specs.Replies.{Listed, done, refusal}
-use Rattle.revocation_calls.specs.Calls.{listedIn, reasonOut}
+use Rattle.steps.proofs.Leaving.{area-is}
+use Rattle.steps.specs.Replies.{WithArea, done, refusal}
+use Rattle.revocation_calls.specs.Calls.{intoArea, reasonOut}
 use Rattle.revocation_calls.proofs.read.write_reason.Statement.{statement}
 use Rattle.revocation_calls.proofs.read.write_reason.Tie as tie
 
@@ -25,29 +25,29 @@ module _ (number : ℕ) (area : List ℕ) where
   -- The code took the number for this reason, and counted its name.
   module _ (small : number ≤ 3) (reason : RevocationReason) (is : reason ≡ reasonOf number) (n : ℕ) (counted : n ≡ length (nameOf reason))
     where
-      named : reasonOut number area ≡ listedIn (nameOf reason) area
+      named : reasonOut number area ≡ intoArea (nameOf reason) area
       unfolding reasonOut
-      named = when-no _ _ _ (le-ltb 3 number small) ∙ ap (λ reason. listedIn (nameOf reason) area) (sym is)
+      named = when-no _ _ _ (le-ltb 3 number small) ∙ ap (λ reason. intoArea (nameOf reason) area) (sym is)
 
       too-short : length area < n → reasonOut number area ≡ record { reply = refusal BadField; area = area }
-      unfolding listedIn
+      unfolding intoArea
       too-short l = named ∙ when-yes _ _ _ (ap (ltb (length area)) (sym counted) ∙ lt-ltb (length area) n l)
 
       writes : n ≤ length area → (r : ℕ) → r ≡ length (nameOf reason)
           → reasonOut number area ≡ record { reply = done r; area = written (nameOf reason) area }
-      unfolding listedIn
+      unfolding intoArea
       writes l r told =
           named
           ∙ when-no _ _ _ (ap (ltb (length area)) (sym counted) ∙ le-ltb (length area) n l)
-          ∙ ap {B = Listed} (λ n. record { reply = done n; area = written (nameOf reason) area }) (sym told)
+          ∙ ap {B = WithArea} (λ n. record { reply = done n; area = written (nameOf reason) area }) (sym told)
 
 returns : tie.Need-returns
-returns c = listed-is (c .refusal .ensures) refl (no-reason _ _ (c .before .if1 .taken))
+returns c = area-is (c .refusal .ensures) refl (no-reason _ _ (c .before .if1 .taken))
 
 returns-2 : tie.Need-returns-2
 returns-2 c =
     let counts = c .before .before in
-    listed-is (c .refusal2 .ensures) refl
+    area-is (c .refusal2 .ensures) refl
     (too-short _ _ (counts .before .before .if1 .left) _ (counts .before .reason-of .ensures) _ (counts .name-length .ensures)
     (c .before .if2 .taken))
 
@@ -58,7 +58,7 @@ returns-3 : tie.Need-returns-3
 returns-3 c =
     let writing = c .before .before .before in
     let counts = writing .before .before .before in
-    listed-is (c .done .ensures) (writing .write-reason .ensures .1)
+    area-is (c .done .ensures) (writing .write-reason .ensures .1)
     (writes _ _ (counts .before .before .if1 .left) _ (counts .before .reason-of .ensures) _ (counts .name-length .ensures)
     (writing .before .before .if2 .left) _ (writing .write-reason .ensures .0))
 

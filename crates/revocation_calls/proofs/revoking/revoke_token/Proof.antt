@@ -14,7 +14,7 @@ use Rattle.steps.specs.declared.Reply.{Reply}
 use Rattle.token.specs.Token.{idOf}
 use Rattle.world.specs.Numbers.{registeredOf}
 use Rattle.world.specs.declared.Numbers.{Numbers}
-use Rattle.revocation_calls.specs.Revoking.{revoking, listing, revokingToken}
+use Rattle.revocation_calls.specs.Revoking.{revoking, loggingToken, revokingToken}
 use Rattle.revocation_calls.proofs.revoking.revoke_token.Statement.{statement}
 use Rattle.revocation_calls.proofs.revoking.revoke_token.Tie as tie
 
@@ -22,17 +22,19 @@ use Rattle.revocation_calls.proofs.revoking.revoke_token.Tie as tie
 module _ (d : Numbers) (mem : List ℕ) (token time : ℕ) (listed : List ℕ) (id r : ℕ) (is-id : id ≡ idOf token)
     (is-place : r ≡ placeIn d mem id)
   where
-    by-place : pick (ltb r (registeredOf mem)) (revoking d r time listed mem) (listing d token mem) ≡ revokingToken d token time listed mem
+    by-place : pick (ltb r (registeredOf mem)) (revoking d r time listed mem) (loggingToken d token mem)
+        ≡ revokingToken d token time listed mem
     unfolding revokingToken
     by-place =
-        ap (λ r. pick (ltb r (registeredOf mem)) (revoking d r time listed mem) (listing d token mem)) (is-place ∙ ap (placeIn d mem) is-id)
+        ap (λ r. pick (ltb r (registeredOf mem)) (revoking d r time listed mem) (loggingToken d token mem))
+        (is-place ∙ ap (placeIn d mem) is-id)
 
     registered :
         r < registeredOf mem → (out : Left Reply) → out ≡ revoking d r time listed mem → out ≡ revokingToken d token time listed mem
     registered inside out is = is ∙ rw (lt-ltb r (registeredOf mem) inside) at by-place
 
     unregistered :
-        registeredOf mem ≤ r → (out : Left Reply) → out ≡ listing d token mem → out ≡ revokingToken d token time listed mem
+        registeredOf mem ≤ r → (out : Left Reply) → out ≡ loggingToken d token mem → out ≡ revokingToken d token time listed mem
     unregistered outside out is = is ∙ rw (le-ltb r (registeredOf mem) outside) at by-place
 
 place-of-requires : tie.Need-place-of-requires
@@ -53,7 +55,7 @@ returns-2 c =
     let call = c .before .before in
     let tested = call .before .before in
     let place = tested .before .before in
-    unregistered _ _ _ _ _ _ _ (place .before .id .ensures) (place .place-of .ensures .0) (tested .if1 .left) _ (call .list-token .ensures)
+    unregistered _ _ _ _ _ _ _ (place .before .id .ensures) (place .place-of .ensures .0) (tested .if1 .left) _ (call .log-token .ensures)
 
 pub revoke-token-spec : {M : Type 1} → statement M
 revoke-token-spec =

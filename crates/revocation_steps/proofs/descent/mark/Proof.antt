@@ -10,7 +10,8 @@ returns : tie.Need-returns
 returns c =
     let call = c .before .before in
     let args = c .before .before .before .before .before .before .before .before .args in
-    registry-back _ _ _ (call .before .before .before .registry-at .ensures) (marked (args .d .places) (now (args .order))) _ (call .mark .ensures)
+    registry-back _ _ _ (call .before .before .before .registry-at .ensures) (marked (args .d .places) (now (args .order))) _
+    (call .mark .ensures)
 
 pub mark-spec : {M : Type 1} → statement M
 mark-spec =

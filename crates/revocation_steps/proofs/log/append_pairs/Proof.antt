@@ -16,7 +16,8 @@ returns c =
     let call = c .before .before in
     let args = c .before .before .before .before .before .before .before .before .before .args in
     let n = loggedOf (now (args .mem)) in
-    log-and-word _ _ _ (call .before .before .before .log-at .ensures) (appended n (now (args .pairs))) _ 13 (n + length (now (args .pairs))) (call .append .ensures)
+    log-and-word _ _ _ (call .before .before .before .log-at .ensures) (appended n (now (args .pairs))) _ 13
+    (n + length (now (args .pairs))) (call .append .ensures)
 
 pub append-pairs-spec : {M : Type 1} → statement M
 append-pairs-spec =

@@ -23,7 +23,8 @@ returns c =
     let call = c .before .before in
     let begin = call .before .before .before .before .before .before .before .before .args in
     queue-back _ _ _ _ (call .before .before .queue-at .ensures) (pushed (begin .id) (begin .time) (begin .reason)) _ (call .push .ensures)
-    ∙ notify-pushes _ _ _ _ _ _ _ (call .before .before .before .before .before .queue-for .ensures .0) (call .before .before .before .if1 .taken)
+    ∙ notify-pushes _ _ _ _ _ _ _ (call .before .before .before .before .before .queue-for .ensures .0)
+    (call .before .before .before .if1 .taken)
 
 returns-2 : tie.Need-returns-2
 returns-2 c =
@@ -31,14 +32,17 @@ returns-2 c =
     let second = call .before .before .before .before .before in
     let first = second .before .before .before .before in
     let begin = first .before .before .before .args in
-    queue-back _ _ _ _ (call .before .before .queue-at2 .ensures) (begun (begin .pid) (begin .id) (begin .time) (begin .reason)) _ (call .begin .ensures)
-    ∙ notify-begins _ _ _ _ _ _ _ (first .queue-for .ensures .0) (second .before .before .if1 .left) _ (second .free-queue .ensures .0) (call .before .before .before .if2 .taken)
+    queue-back _ _ _ _ (call .before .before .queue-at2 .ensures) (begun (begin .pid) (begin .id) (begin .time) (begin .reason)) _
+    (call .begin .ensures)
+    ∙ notify-begins _ _ _ _ _ _ _ (first .queue-for .ensures .0) (second .before .before .if1 .left) _ (second .free-queue .ensures .0)
+    (call .before .before .before .if2 .taken)
 
 returns-3 : tie.Need-returns-3
 returns-3 c =
     let second = c .before .before in
     let first = second .before .before .before .before in
-    notify-stays _ _ _ _ _ _ _ (first .queue-for .ensures .0) (second .before .before .if1 .left) _ (second .free-queue .ensures .0) (c .if2 .left)
+    notify-stays _ _ _ _ _ _ _ (first .queue-for .ensures .0) (second .before .before .if1 .left) _ (second .free-queue .ensures .0)
+    (c .if2 .left)
 
 pub notify-spec : {M : Type 1} → statement M
 notify-spec =

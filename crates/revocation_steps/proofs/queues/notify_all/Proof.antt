@@ -28,7 +28,8 @@ module _ (d : Numbers) (listed ids : List ℕ) (time : ℕ) (mem₀ : List ℕ) 
     unfolding notifyAll
     ends u = rw (drop-of-length-le ids u) at (notifying .left)
 
-    goes : j < length ids → (after : List ℕ) → after ≡ notifyPids d listed (getD ids j 0) time mem → QueuesReady d after → Notifying after (j + 1)
+    goes : j < length ids → (after : List ℕ) → after ≡ notifyPids d listed (getD ids j 0) time mem → QueuesReady d after
+        → Notifying after (j + 1)
     unfolding notifyAll
     goes l after e ready =
         let next : drop j ids ≡ getD ids j 0 ∷ drop (j + 1) ids = rw add-one (drop-cons ids j 0 l) in

@@ -6,7 +6,10 @@ use Rattle.revocation_steps.proofs.queues.queue_length.Statement.{state
 use Rattle.revocation_steps.proofs.queues.queue_length.Tie as tie
 
 returns : tie.Need-returns
-returns c = length-here _ _ _ _ (record { within = omega (arith, c .before .before .before .pre .1); place = c .before .queue-at .ensures .is })
+returns c = length-here _ _ _ _ (record {
+  within = omega (arith, c .before .before .before .pre .1);
+  place = c .before .queue-at .ensures .is;
+})
 
 pub queue-length-spec : {M : Type 1} → statement M
 queue-length-spec =

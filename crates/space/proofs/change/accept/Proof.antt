@@ -1,4 +1,4 @@
--- `space::change::accept` meets its contract: the table takes the entry, the space its counts. Assumes nothing.
+-- `space::change::accept` meets its contract: the table takes the entry, the space its counts.
 use borrow.Author.Needs.{needs}
 use Rattle.space.proofs.CodeChange.{change-laws}
 use Rattle.space.proofs.change.accept.Statement.{statement}

@@ -1,4 +1,4 @@
--- `space::change::clear` meets its contract. Assumes nothing.
+-- `space::change::clear` meets its contract.
 use borrow.Author.Needs.{needs}
 use Rattle.space.specs.Change.{cleared}
 use Rattle.space.proofs.change.clear.Statement.{statement}

@@ -1,4 +1,4 @@
--- `space::change::holds_id` meets its contract. Assumes nothing.
+-- `space::change::holds_id` meets its contract.
 use mathlib.Core.Path.{ap, _∙_}
 use borrow.Author.Needs.{needs}
 use Rattle.table.specs.declared.Search.{Search}

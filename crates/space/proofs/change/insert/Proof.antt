@@ -1,4 +1,4 @@
--- `space::change::insert` meets its contract: quota, then the id. Assumes nothing.
+-- `space::change::insert` meets its contract: quota, then the id.
 use mathlib.Core.Path.{_≡_, sym, _∙_}
 use mathlib.Core.Bool.{Bool, true, false}
 use mathlib.Core.List.{List}
@@ -34,7 +34,8 @@ module _ (sp : List ℕ) (e : CapabilityEntry) (quota used : ℕ) (q : quota ≡
 returns-2 : tie.Need-returns-2
 returns-2 c =
     let tests = c .before .before .before .before in
-    there _ _ _ _ (tests .before .before .before .quota .ensures) (tests .before .used .ensures) _ (c .before .holds-id .ensures) (tests .if1 .left) (c .if2 .taken)
+    there _ _ _ _ (tests .before .before .before .quota .ensures) (tests .before .used .ensures) _ (c .before .holds-id .ensures)
+    (tests .if1 .left) (c .if2 .taken)
 
 pub insert-spec : {M : Type 1} → statement M
 insert-spec =

@@ -1,4 +1,4 @@
--- `space::change::next_generation` meets its contract. Assumes nothing.
+-- `space::change::next_generation` meets its contract.
 use borrow.Author.Needs.{needs}
 use Rattle.space.specs.Change.{nextGeneration}
 use Rattle.space.proofs.change.next_generation.Statement.{statement}

@@ -1,4 +1,4 @@
--- `space::change::remove` meets its contract: only a slot that holds exactly the token is given up. Assumes nothing.
+-- `space::change::remove` meets its contract: only a slot that holds exactly the token is given up.
 use mathlib.Core.Path.{_≡_}
 use mathlib.Core.List.{List}
 use Prim.Native.Nat.{ℕ}

@@ -1,4 +1,4 @@
--- `space::change::remove_slot` meets its contract: the entry is read, the table gives it up, the space takes its counts. Assumes nothing.
+-- `space::change::remove_slot` meets its contract: the entry is read, the table gives it up, the space takes its counts.
 use mathlib.Core.Path.{ap}
 use native.Mathlib.Omega.{arith}
 use borrow.Author.Needs.{needs}

@@ -1,4 +1,4 @@
--- `space::copy::replace` meets its contract: the table is made anew, the space takes its counts and the generation. Assumes nothing.
+-- `space::copy::replace` meets its contract: the table is made anew, the space takes its counts and the generation.
 use borrow.Author.Needs.{needs}
 use Rattle.space.proofs.CodeChange.{change-laws}
 use Rattle.space.proofs.copy.replace.Statement.{statement}

@@ -1,6 +1,6 @@
 -- `space::counters::count` meets its contract: a walk of its MIR, by hand. The borrow is opened, the record is copied out and passed to
 -- `counted`, what that returns is stored in its place, and the borrow is closed there. All that the walk knows of `counted` is that it
--- meets its contract. Assumes nothing.
+-- meets its contract.
 use mathlib.Core.Path.{_≡_, refl}
 use mathlib.Core.Bool.{Bool}
 use Prim.Native.Nat.{ℕ}
@@ -121,7 +121,8 @@ module _ {M : Type 1} (𝓤 : URA M) (H : Heap 𝓤) (A : Atoms 𝓤) (W : Given
           use1 W (raw (Counted .pre to)) goes $
           calls-at ! fm Counted meets to
           (and-then ! (load ! (from ! (stop !)) (look ! 5 refl)) (and-then ! (load ! (from ! (stop !)) (look ! 9 refl)) (no-more !))) (λ v.
-          use1 W (later (some (λ (r : Counters). (‵ ftrue ⊛ ‵ (R .own r (v ∷ []))) ⊛ raw (Ensured r)))) (id⊢ 𝓤 _) $ await ! tt $ pick ! (λ r.
+          use1 W (later (some (λ (r : Counters). (‵ ftrue ⊛ ‵ (R .own r (v ∷ []))) ⊛ raw (Ensured r)))) (id⊢ 𝓤 _) $ await ! tt $ pick !
+          (λ r.
           split ! $ move ! (1 ∷ []) $ use1 W (raw (fact 𝓤 (r ≡ oneMore h hit))) (said r) $ heard ! (r ≡ oneMore h hit) (λ e.
           split ! $ drop ! $ known ! counters r v (λ is.
           -- [what the new record owns; the cell; the open borrow; obs; auth; _4; …; room for _3; …; _2; …; _1; …; room for _0; …]

@@ -1,4 +1,4 @@
--- `space::counters::counted` meets its contract: each arm is one of `oneMore`'s. Assumes nothing.
+-- `space::counters::counted` meets its contract: each arm is one of `oneMore`'s.
 use borrow.Author.Needs.{needs}
 use Rattle.space.proofs.counters.counted.Statement.{statement}
 use Rattle.space.proofs.counters.counted.Tie as tie

@@ -1,6 +1,6 @@
 -- `space::counters::lend` meets its contract: a walk of its MIR, by hand. The record stands in a local, which is lent to `lookup_counted`
 -- for a lifetime that the walk makes and ends, and is read when it has come back. All that the walk knows of `lookup_counted` is that it
--- meets its contract. Assumes nothing.
+-- meets its contract.
 use mathlib.Core.Path.{_≡_, refl, ap, subst}
 use Prim.Native.Nat.{ℕ}
 use mathlib.Core.List.{[], _∷_, List}
@@ -87,9 +87,11 @@ told r u is = ap only (LL.tells (searches .type) (searches .laws) r (u ∷ []) i
 abbrev value : Search → Counters → Val
 value r c = valueOf counted-searches (searchAnd r c)
 
-made : (r : Search) (u : Val) (c : Counters) → Is Res r (u ∷ []) → Is R c (valueOf counters c ∷ []) → Is Out (searchAnd r c) (value r c ∷ [])
+made : (r : Search) (u : Val) (c : Counters) → Is Res r (u ∷ []) → Is R c (valueOf counters c ∷ [])
+    → Is Out (searchAnd r c) (value r c ∷ [])
 made r u c is is-c =
-    LL.owes (counted-searches .type) (counted-searches .laws) (searchAnd r c) (subst (λ (v : Val). Is Res r (v ∷ [])) (told r u is) is, (is-c, tt))
+    LL.owes (counted-searches .type) (counted-searches .laws) (searchAnd r c)
+    (subst (λ (v : Val). Is Res r (v ∷ [])) (told r u is) is, (is-c, tt))
 
 module _ {M : Type 1} (𝓤 : URA M) (H : Heap 𝓤) (A : Atoms 𝓤) (W : Given 𝓤 H A) (at-mem : Memory → SProp 𝓤) (run : Routine → Fun 𝓤) where
   -- the contract that the walk cites
@@ -187,7 +189,8 @@ module _ {M : Type 1} (𝓤 : URA M) (H : Heap 𝓤) (A : Atoms 𝓤) (W : Given
     exits : (d : CountedSearch) (v : Val) → d ≡ after → Is Tok token (vt ∷ []) → Is R c (vc ∷ []) → ent 𝓤 (⋆ 𝓤 H A (Left d v)) (Post v)
     exits d v e is-t is-c =
         qed W (Left d v) ∵
-        suffices ! _ (ends-at 𝓤 H A lend.ended stayed (lend.clauses 𝓤 H A at-mem run) W bound v d (tt, (tt, (tt, tt))) (tt, (tt, (tt, tt)))) $
+        suffices ! _ (ends-at 𝓤 H A lend.ended stayed (lend.clauses 𝓤 H A at-mem run) W bound v d (tt, (tt, (tt, tt))) (tt, (tt, (tt, tt))))
+        $
         says ! e $ nothing ! $ move ! (2 ∷ 0 ∷ []) $ join ! $ frame ! $ nothing ! $ anew ! counters c vc is-c $ fjoin ! $
         anew ! tokens token vt is-t $ fjoin ! $ move ! (2 ∷ 0 ∷ []) $ fjoin ! $ frame ! $ done !
 
@@ -201,10 +204,13 @@ module _ {M : Type 1} (𝓤 : URA M) (H : Heap 𝓤) (A : Atoms 𝓤) (W : Given
           use1 W (‵ Own-s ⊛ ‵ Own-s) (shr-slice-copy 𝓤 H A W (named 0) κ u64 .twice s (vs ∷ [])) $ split ! $ keep ! (0 ∷ 1 ∷ 3 ∷ []) $
           -- [the slice; the slice; its lifetime]
           enter ! C Λ code.function (vs ∷ vt ∷ vc ∷ []) _ $
-          alloc1 ! (λ l₀. alloc1 ! (λ l₁. alloc1 ! (λ l₂. alloc1 ! (λ l₃. alloc1 ! (λ l₄. alloc1 ! (λ l₅. alloc1 ! (λ l₆. alloc1 ! (λ l₇. alloc0 ! $
+          alloc1 ! (λ l₀. alloc1 ! (λ l₁. alloc1 ! (λ l₂. alloc1 !
+          (λ l₃. alloc1 ! (λ l₄. alloc1 ! (λ l₅. alloc1 ! (λ l₆. alloc1 ! (λ l₇. alloc0 ! $
           params1 ! $ pass1 ! (init ! 12 refl (shr-slice-lawful 𝓤 H A W (named 0) κ u64 .typed s (vs ∷ []) is-s .0)) $
-          pass1 ! (init ! 10 refl (fits 𝓤 H A W tokens token vt is-t .0)) $ pass1 ! (init ! 8 refl (fits 𝓤 H A W counters c vc is-c .0)) $ pass0 ! $
-          assigns ! (of-opd ! (load ! (from ! (stop !)) (look ! 8 refl))) (from ! (stop !)) (init ! 6 refl (fits 𝓤 H A W counters c vc is-c .0)) $
+          pass1 ! (init ! 10 refl (fits 𝓤 H A W tokens token vt is-t .0)) $ pass1 !
+          (init ! 8 refl (fits 𝓤 H A W counters c vc is-c .0)) $ pass0 ! $
+          assigns ! (of-opd ! (load ! (from ! (stop !)) (look ! 8 refl))) (from ! (stop !))
+          (init ! 6 refl (fits 𝓤 H A W counters c vc is-c .0)) $
           assigns ! (addr ! (from ! (stop !))) (from ! (stop !)) (init ! 2 refl (tt, tt)) $
           -- the local is lent for a new lifetime
           move ! (6 ∷ []) $ use1 W (‵ (cellAt fullShare (R .mir) (vc ∷ []) l₄ 0)) (W .laws .at-raw fullShare τ-c l₄ 0 vc) $
@@ -212,16 +218,19 @@ module _ {M : Type 1} (𝓤 : URA M) (H : Heap 𝓤) (A : Atoms 𝓤) (W : Given
           lft-new ! tt (λ α. move ! (1 ∷ []) $
           use1 W (later (some (λ (δ : GName). ‵ (Own-r α l₄ δ) ⊛ ‵ (Lender α l₄ δ)))) (lends-ref 𝓤 H A W R (named 1) (α ∷ []) c l₄ 0) $
           await ! tt $ pick ! (λ δ. split ! $
-          -- [the reference; the lender's part; the local's lifetime; _7; …; _6; …; _5; …; _4's end; _3; …; _2; …; _1; …; _0; …; the slice; the slice; ..]
+          -- [the reference; the lender's part; the local's lifetime; _7; …; _6; …; _5; …; _4's end; _3; …; _2; …; _1; …; _0; …; the slice;
+          -- the slice; ..]
           move ! (18 ∷ 20 ∷ []) $ join ! $ move ! (1 ∷ 3 ∷ 0 ∷ []) $ use3 W (raw (Lookup .pre (to α l₄ δ))) (goes α l₄ δ range is-t) $
           calls-at ! fm Lookup meets (to α l₄ δ) (and-then ! (load ! (from ! (stop !)) (look ! 13 refl))
-          (and-then ! (load ! (from ! (stop !)) (look ! 11 refl)) (and-then ! (load ! (from ! (stop !)) (look ! 4 refl)) (no-more !)))) (λ u.
+          (and-then ! (load ! (from ! (stop !)) (look ! 11 refl)) (and-then ! (load ! (from ! (stop !)) (look ! 4 refl)) (no-more !))))
+          (λ u.
           use1 W (later (some (λ (r : Search).
           ((‵ (flft κ q) ⊛ ‵ (flft (α ∷ []) fullShare) ⊛ ‵ ftrue) ⊛ ‵ (Res .own r (u ∷ []))) ⊛ raw (Ensured α l₄ δ r)))) (id⊢ 𝓤 _) $
           await ! tt $ pick ! (λ r. split ! $ move ! (1 ∷ []) $
           use1 W (given (r ≡ after .search) (‵ (fres δ (R .coded .code c′)))) (said α l₄ δ r) $ learn ! (λ e.
           move ! (1 ∷ []) $ split ! $ move ! (1 ∷ []) $ known ! searches r u (λ is.
-          -- [what was found; the lifetimes; the record's last value; the lender's part; _7; …; _6; …; _5; …; _4's end; _3; …; _2; …; _1; …; _0; …; ..]
+          -- [what was found; the lifetimes; the record's last value; the lender's part; _7; …; _6; …; _5; …; _4's end; _3; …; _2; …; _1; …;
+          -- _0; …; ..]
           land ! (from ! (stop !)) (init ! 8 refl (fits 𝓤 H A W searches r u is .0)) $
           rewrite ! 8 (λ (v : Val). ‵ (fat fullShare τ-s l₅ 0 v)) (told r u is) refl $ drop ! $
           -- the lifetime is ended, and the record is taken back at its last value
@@ -230,12 +239,15 @@ module _ {M : Type 1} (𝓤 : URA M) (H : Heap 𝓤) (A : Atoms 𝓤) (W : Given
           fpick ! (λ us. fsplit ! $ spelled ! counters fullShare c′ us l₄ 0 $ move ! (1 ∷ []) $ known ! counters c′ vc′ (λ is-c′.
           drop ! $ use1 W (‵ (fat fullShare τ-c l₄ 0 vc′)) (W .laws .raw-at fullShare τ-c l₄ 0 vc′) $
           -- [_4; true; the slice's lifetime; _7; …; _6; …; _5; …; _4's end; _3; …; _2; …; _1; …; _0; …; the slice]
-          assigns ! (of-opd ! (load ! (from ! (stop !)) (look ! 0 refl))) (from ! (stop !)) (init ! 3 refl (fits 𝓤 H A W counters c′ vc′ is-c′ .0)) $
-          assigns ! (agg ! (and-then ! (load ! (from ! (stop !)) (look ! 7 refl)) (and-then ! (load ! (from ! (stop !)) (look ! 3 refl)) (no-more !))))
+          assigns ! (of-opd ! (load ! (from ! (stop !)) (look ! 0 refl))) (from ! (stop !))
+          (init ! 3 refl (fits 𝓤 H A W counters c′ vc′ is-c′ .0)) $
+          assigns ! (agg ! (and-then ! (load ! (from ! (stop !)) (look ! 7 refl))
+          (and-then ! (load ! (from ! (stop !)) (look ! 3 refl)) (no-more !))))
           (from ! (stop !)) (init ! 16 refl (fits 𝓤 H A W counted-searches (searchAnd r c′) (value r c′) (made r u c′ is is-c′) .0)) $
           returns ! (look ! 16 refl) $ forget ! 0 refl $ forget ! 3 refl $ forget ! 5 refl $ forget ! 7 refl $ forget ! 10 refl $
           forget ! 12 refl $ forget ! 14 refl $ forget ! 16 refl $ move ! (16 ∷ 17 ∷ []) $ free1 ! $ move ! (14 ∷ 15 ∷ []) $ free1 ! $
-          move ! (12 ∷ 13 ∷ []) $ free1 ! $ move ! (10 ∷ 11 ∷ []) $ free1 ! $ move ! (0 ∷ 9 ∷ []) $ free1 ! $ move ! (6 ∷ 7 ∷ []) $ free1 ! $
+          move ! (12 ∷ 13 ∷ []) $ free1 ! $ move ! (10 ∷ 11 ∷ []) $ free1 ! $ move ! (0 ∷ 9 ∷ []) $ free1 ! $ move !
+          (6 ∷ 7 ∷ []) $ free1 ! $
           move ! (4 ∷ 5 ∷ []) $ free1 ! $ move ! (2 ∷ 3 ∷ []) $ free1 ! $ free0 ! $
           anew ! counted-searches (searchAnd r c′) (value r c′) (made r u c′ is is-c′) $ keep ! (0 ∷ 2 ∷ 3 ∷ []) $
           by ! (exits (searchAnd r c′) (value r c′) (ap (λ (z : Search). searchAnd z c′) e) is-t is-c)))))))))))))))))
@@ -245,7 +257,13 @@ module _ {M : Type 1} (𝓤 : URA M) (H : Heap 𝓤) (A : Atoms 𝓤) (W : Given
   walks C Λ fm meets =
       walked 𝓤 H A lend.ended stayed (lend.clauses 𝓤 H A at-mem run) (WpFn 𝓤 H C Λ code.function)
       (λ κs. (slice-vals, (LL.vals (tokens .type) (tokens .laws), (LL.vals (counters .type) (counters .laws), tt))))
-      (λ κs. (shr-slice-tells (named 0) (κs .0) u64, (LL.tells (tokens .type) (tokens .laws), (LL.tells (counters .type) (counters .laws), tt))))
+      (λ κs. (
+        shr-slice-tells (named 0) (κs .0) u64,
+        (
+          LL.tells (tokens .type) (tokens .laws),
+          (LL.tells (counters .type) (counters .laws), tt),
+        ),
+      ))
       (λ κs qs bounds a _ are. needs 𝓤 _ _ (λ range.
       walk (κs .0) (qs .0) (a .0) (a .1 .0) (a .1 .1 .0) C Λ fm meets range (are .0) (are .1 .0) (are .1 .1 .0)))
 

@@ -182,8 +182,10 @@ module _ {M : Type 1} (𝓤 : URA M) (H : Heap 𝓤) (A : Atoms 𝓤) (W : Given
         → ent 𝓤 (⋆ 𝓤 H A (Left r u w)) (Post u)
     exits r u w is-t e =
         qed W (Left r u w) ∵
-        suffices ! _ (ends-at 𝓤 H A lookup.ended stayed (lookup.clauses 𝓤 H A at-mem run) W bound u r (tt, (tt, (w, tt))) (tt, (tt, (tt, tt)))) $
-        says ! e $ move ! (1 ∷ 2 ∷ []) $ join ! $ frame ! $ nothing ! $ move ! (3 ∷ 0 ∷ []) $ fjoin ! $ anew ! tokens token vt is-t $ fjoin ! $
+        suffices ! _ (ends-at 𝓤 H A lookup.ended stayed (lookup.clauses 𝓤 H A at-mem run) W bound u r (tt, (tt, (w, tt)))
+        (tt, (tt, (tt, tt)))) $
+        says ! e $ move ! (1 ∷ 2 ∷ []) $ join ! $ frame ! $ nothing ! $ move !
+        (3 ∷ 0 ∷ []) $ fjoin ! $ anew ! tokens token vt is-t $ fjoin ! $
         move ! (2 ∷ 0 ∷ []) $ fjoin ! $ frame ! $ done !
 
     module _ (C : Calls 𝓤 H) (Λ : Loops 𝓤 H) (fm : FmC 𝓤 H (W .laws) C) (exact-meets : Triple 𝓤 (C #exact) Exact)
@@ -199,11 +201,13 @@ module _ {M : Type 1} (𝓤 : URA M) (H : Heap 𝓤) (A : Atoms 𝓤) (W : Given
           move ! (0 ∷ 5 ∷ []) $ use2 W (raw (Exact .pre to-exact)) (goes-exact range is-t) $ move ! (0 ∷ 1 ∷ 2 ∷ 5 ∷ []) $
           -- [what `exact` asks; the slice; the reference; its lifetime; ..]
           enter ! C Λ code.function (vs ∷ vt ∷ vptr b o ∷ []) _ $
-          alloc1 ! (λ l₀. alloc1 ! (λ l₁. alloc1 ! (λ l₂. alloc1 ! (λ l₃. alloc1 ! (λ l₄. alloc1 ! (λ l₅. alloc1 ! (λ l₆. alloc1 ! (λ l₇. alloc0 ! $
+          alloc1 ! (λ l₀. alloc1 ! (λ l₁. alloc1 ! (λ l₂. alloc1 !
+          (λ l₃. alloc1 ! (λ l₄. alloc1 ! (λ l₅. alloc1 ! (λ l₆. alloc1 ! (λ l₇. alloc0 ! $
           params1 ! $ pass1 ! (init ! 12 refl (shr-slice-lawful 𝓤 H A W (named 0) κ u64 .typed s (vs ∷ []) is-s .0)) $
           pass1 ! (init ! 10 refl (fits 𝓤 H A W tokens token vt is-t .0)) $ pass1 ! (init ! 8 refl (tt, tt)) $ pass0 ! $
           move ! (16 ∷ []) $ calls-at ! fm Exact exact-meets to-exact
-          (and-then ! (load ! (from ! (stop !)) (look ! 13 refl)) (and-then ! (load ! (from ! (stop !)) (look ! 11 refl)) (no-more !))) (λ u.
+          (and-then ! (load ! (from ! (stop !)) (look ! 13 refl)) (and-then ! (load ! (from ! (stop !)) (look ! 11 refl)) (no-more !)))
+          (λ u.
           use1 W (later (some (λ (r : Search). ((‵ (flft κ q) ⊛ ‵ ftrue) ⊛ ‵ (Res .own r (u ∷ []))) ⊛ raw (Exact-ensured r)))) (id⊢ 𝓤 _) $
           await ! tt $ pick ! (λ r. split ! $ move ! (1 ∷ []) $ use1 W (raw (fact 𝓤 (Found r))) (exact-said r) $ heard ! (Found r) (λ e.
           split ! $ split ! $ move ! (2 ∷ []) $ known ! searches r u (λ is.
@@ -212,23 +216,29 @@ module _ {M : Type 1} (𝓤 : URA M) (H : Heap 𝓤) (A : Atoms 𝓤) (W : Given
           assigns ! (addr ! (from ! (hop ! (look ! 11 refl) (stop !)))) (from ! (stop !)) (init ! 5 refl (tt, tt)) $
           use1 W (raw (IsFound .pre (to-is-found r u))) (goes-is-found r u) $
           calls-at ! fm IsFound is-found-meets (to-is-found r u) (and-then ! (load ! (from ! (stop !)) (look ! 9 refl)) (no-more !)) (λ u′.
-          use1 W (later (some (λ (y : Bool). (‵ ftrue ⊛ ‵ (bool .own y (u′ ∷ []))) ⊛ raw (Is-found-ensured r y)))) (id⊢ 𝓤 _) $ await ! tt $ pick ! (λ y.
-          split ! $ move ! (1 ∷ []) $ use1 W (raw (fact 𝓤 (y ≡ isFound (r .found)))) (is-found-said r y) $ heard ! (y ≡ isFound (r .found)) (λ e′.
+          use1 W (later (some (λ (y : Bool). (‵ ftrue ⊛ ‵ (bool .own y (u′ ∷ []))) ⊛ raw (Is-found-ensured r y))))
+          (id⊢ 𝓤 _) $ await ! tt $ pick ! (λ y.
+          split ! $ move ! (1 ∷ []) $ use1 W (raw (fact 𝓤 (y ≡ isFound (r .found)))) (is-found-said r y) $ heard ! (y ≡ isFound (r .found))
+          (λ e′.
           split ! $ drop ! $ peeks ! bool (Is bool) (shows 𝓤 H A bool) y (u′ ∷ []) (λ is′.
           -- [whether it is a hit; the slice's lifetime; true; room for _7; …; _0; …; the slice; the reference; its lifetime; ..]
           land ! (from ! (stop !)) (init ! 3 refl (bool-lawful 𝓤 H A W .typed y _ is′ .0)) $
-          move ! (0 ∷ 20 ∷ 21 ∷ []) $ use3 W (raw (Count .pre (to-count y u′))) (goes-count y u′) $ calls-at ! fm Count count-meets (to-count y u′)
+          move ! (0 ∷ 20 ∷ 21 ∷ []) $ use3 W (raw (Count .pre (to-count y u′))) (goes-count y u′) $ calls-at ! fm Count count-meets
+          (to-count y u′)
           (and-then ! (load ! (from ! (stop !)) (look ! 5 refl)) (and-then ! (load ! (from ! (stop !)) (look ! 3 refl)) (no-more !))) (λ u″.
           use1 W (later (some (λ (z : Unit {0}). (Lives-c ⊛ ‵ (Nothing .own z (u″ ∷ []))) ⊛ raw (Count-ensured y z)))) (id⊢ 𝓤 _) $
           await ! tt $ pick ! (λ z. split ! $ move ! (1 ∷ []) $ use1 W (‵ (fres γ (R .coded .code (oneMore h y)))) (count-said y z) $
           move ! (1 ∷ []) $ split ! $ move ! (1 ∷ []) $ feqL ! (λ e″.
           -- [the reference's lifetime; its last value; the slice's lifetime; true; _7; …; _0; …; the slice; ..]
           land ! (from ! (stop !)) (init ! 8 refl (subst (λ (v : Val). Holds (hasTy tyUnit v) × WT v) (sym (ap only e″)) (tt, tt))) $
-          assigns ! (of-opd ! (load ! (from ! (stop !)) (look ! 10 refl))) (from ! (stop !)) (init ! 18 refl (fits 𝓤 H A W searches r u is .0)) $
+          assigns ! (of-opd ! (load ! (from ! (stop !)) (look ! 10 refl))) (from ! (stop !))
+          (init ! 18 refl (fits 𝓤 H A W searches r u is .0)) $
           returns ! (look ! 18 refl) $ forget ! 4 refl $ forget ! 6 refl $ forget ! 8 refl $ forget ! 10 refl $ forget ! 12 refl $
           forget ! 14 refl $ forget ! 16 refl $ forget ! 18 refl $ move ! (18 ∷ 19 ∷ []) $ free1 ! $ move ! (16 ∷ 17 ∷ []) $ free1 ! $
-          move ! (14 ∷ 15 ∷ []) $ free1 ! $ move ! (12 ∷ 13 ∷ []) $ free1 ! $ move ! (10 ∷ 11 ∷ []) $ free1 ! $ move ! (8 ∷ 9 ∷ []) $ free1 ! $
-          move ! (6 ∷ 7 ∷ []) $ free1 ! $ move ! (4 ∷ 5 ∷ []) $ free1 ! $ free0 ! $ anew ! searches r u is $ keep ! (0 ∷ 3 ∷ 1 ∷ 5 ∷ 2 ∷ []) $
+          move ! (14 ∷ 15 ∷ []) $ free1 ! $ move ! (12 ∷ 13 ∷ []) $ free1 ! $ move ! (10 ∷ 11 ∷ []) $ free1 ! $ move !
+          (8 ∷ 9 ∷ []) $ free1 ! $
+          move ! (6 ∷ 7 ∷ []) $ free1 ! $ move ! (4 ∷ 5 ∷ []) $ free1 ! $ free0 ! $ anew ! searches r u is $ keep !
+          (0 ∷ 3 ∷ 1 ∷ 5 ∷ 2 ∷ []) $
           by ! (exits r u (oneMore h y) is-t cc))))))))))))))))))))
 
   walks : (C : Calls 𝓤 H) (Λ : Loops 𝓤 H) → FmC 𝓤 H (W .laws) C
@@ -239,7 +249,8 @@ module _ {M : Type 1} (𝓤 : URA M) (H : Heap 𝓤) (A : Atoms 𝓤) (W : Given
       (λ κs. (slice-vals, (LL.vals (tokens .type) (tokens .laws), (ptr-vals, tt))))
       (λ κs. (shr-slice-tells (named 0) (κs .0) u64, (LL.tells (tokens .type) (tokens .laws), (mut-tells (named 1) (κs .1 .0) R, tt))))
       (λ κs qs bounds a _ are. needs 𝓤 _ _ (λ range.
-      walk (κs .0) (κs .1 .0) (qs .0) (qs .1 .0) (a .0) (a .1 .0) (a .1 .1 .0 .ptr .0) (a .1 .1 .0 .ptr .1) (a .1 .1 .0 .name) (a .1 .1 .0 .now)
+      walk (κs .0) (κs .1 .0) (qs .0) (qs .1 .0) (a .0) (a .1 .0) (a .1 .1 .0 .ptr .0) (a .1 .1 .0 .ptr .1) (a .1 .1 .0 .name)
+      (a .1 .1 .0 .now)
       C Λ fm exact-meets is-found-meets count-meets range (are .0) (are .1 .0)))
 
   lookup-meets : (𝓣 : Tables 𝓤 H)

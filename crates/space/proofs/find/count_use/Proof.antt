@@ -1,4 +1,4 @@
--- `space::find::count_use` meets its contract. Assumes nothing.
+-- `space::find::count_use` meets its contract.
 use borrow.Author.Needs.{needs}
 use Rattle.space.proofs.find.count_use.Statement.{statement}
 use Rattle.space.proofs.find.count_use.Tie as tie

@@ -1,4 +1,4 @@
--- `space::find::exact` meets its contract: where the search of the id ended, the whole token is compared. Assumes nothing.
+-- `space::find::exact` meets its contract: where the search of the id ended, the whole token is compared.
 use borrow.Author.Needs.{needs}
 use Rattle.space.proofs.CodeFind.{find-laws}
 use Rattle.space.proofs.find.exact.Statement.{statement}

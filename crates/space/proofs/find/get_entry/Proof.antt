@@ -1,4 +1,4 @@
--- `space::find::get_entry` meets its contract. Assumes nothing.
+-- `space::find::get_entry` meets its contract.
 use borrow.Author.Needs.{needs}
 use Rattle.space.proofs.CodeFind.{find-laws}
 use Rattle.space.proofs.find.get_entry.Statement.{statement}

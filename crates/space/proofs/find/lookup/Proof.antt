@@ -1,4 +1,4 @@
--- `space::find::lookup` meets its contract: a hit with its entry's use, or a miss. Assumes nothing.
+-- `space::find::lookup` meets its contract: a hit with its entry's use, or a miss.
 use borrow.Author.Needs.{needs}
 use Rattle.space.proofs.CodeFind.{lookup-laws}
 use Rattle.space.proofs.find.lookup.Statement.{statement}

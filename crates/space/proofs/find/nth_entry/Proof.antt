@@ -1,4 +1,4 @@
--- `space::find::nth_entry` meets its contract: the words that it lends are the slots'. Assumes nothing.
+-- `space::find::nth_entry` meets its contract: the words that it lends are the slots'.
 use borrow.Author.Needs.{needs}
 use Rattle.space.proofs.Lent.{lent-rest}
 use Rattle.space.proofs.find.nth_entry.Statement.{statement}

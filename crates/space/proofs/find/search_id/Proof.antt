@@ -1,4 +1,4 @@
--- `space::find::search_id` meets its contract: the words that it lends are the slots'. Assumes nothing.
+-- `space::find::search_id` meets its contract: the words that it lends are the slots'.
 use borrow.Author.Needs.{needs}
 use Rattle.space.proofs.Lent.{lent-rest}
 use Rattle.space.proofs.find.search_id.Statement.{statement}

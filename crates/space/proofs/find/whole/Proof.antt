@@ -1,4 +1,4 @@
--- `space::find::whole` meets its contract: its test is `wholly`'s. Assumes nothing.
+-- `space::find::whole` meets its contract: its test is `wholly`'s.
 use borrow.Author.Needs.{needs}
 use borrow.Author.Tests.{eq-eqb, ne-eqb}
 use Rattle.space.proofs.find.whole.Statement.{statement}

@@ -1,5 +1,5 @@
 -- `space::ids::entry_ids` meets its contract. The invariant: the ids put so far, with those of the entries from slot i on, are the
--- answer. The measure is the slots that are left. Assumes nothing.
+-- answer. The measure is the slots that are left.
 use mathlib.Core.Path.{_≡_, ap}
 use mathlib.Core.List.{List, _++_, append-nil, append-assoc}
 use Prim.Native.Nat.{ℕ, suc, _+_, _-_, _<_, _≤_}
@@ -42,7 +42,8 @@ module _ (ids : List ℕ) (count : ℕ) (ws : List ℕ) (slots i : ℕ) (all : L
     unfolding known liveEntries
     passes tag = rw (add-one i) (rw (more, other-slot ws i s is tag) at put)
 
-    counts : (e : CapabilityEntry) (id : ℕ) → s ≡ Full e → id ≡ idOf e → count < length ids → known (set ids count id) (count + 1) ws slots (i + 1) ≡ all
+    counts : (e : CapabilityEntry) (id : ℕ) → s ≡ Full e → id ≡ idOf e → count < length ids
+        → known (set ids count id) (count + 1) ws slots (i + 1) ≡ all
     unfolding known liveEntries idsOf
     counts e id full same room =
         let (lives, has) = full-slot ws i s is e full in
@@ -94,7 +95,8 @@ entry-ids-spec =
       search needs,
       search needs,
       search needs,
-      counts _ _ _ _ _ _ (turn .inv .4) (search needs) _ (read .slot-at .ensures) _ _ (c .before .before .entry .given .1) (c .id-of .ensures) (search needs),
+      counts _ _ _ _ _ _ (turn .inv .4) (search needs) _ (read .slot-at .ensures) _ _ (c .before .before .entry .given .1)
+          (c .id-of .ensures) (search needs),
     ))
     (λ c. search laws)
     (λ c. search laws))

@@ -1,4 +1,4 @@
--- `space::sound::is_sound` meets its contract: its three tests are those of `spaceTest`. Assumes nothing.
+-- `space::sound::is_sound` meets its contract: its three tests are those of `spaceTest`.
 use mathlib.Core.Path.{_≡_}
 use mathlib.Core.Bool.{Bool, false}
 use mathlib.Core.List.{List}

@@ -1,4 +1,4 @@
--- `space::words::put_counters` meets its contract: the two stores are those of `withCounters`. Assumes nothing.
+-- `space::words::put_counters` meets its contract: the two stores are those of `withCounters`.
 use mathlib.Core.Path.{refl}
 use native.Mathlib.Omega.{arith}
 use borrow.Author.Needs.{needs}

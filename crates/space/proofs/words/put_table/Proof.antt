@@ -1,4 +1,4 @@
--- `space::words::put_table` meets its contract: the three stores are those of `withCounts`. Assumes nothing.
+-- `space::words::put_table` meets its contract: the three stores are those of `withCounts`.
 use mathlib.Core.Path.{refl}
 use native.Mathlib.Omega.{arith}
 use borrow.Author.Needs.{needs}

@@ -33,4 +33,5 @@ returns-3 c =
 
 pub copy-spec : {M : Type 1} → statement M
 unfolding copyOut
-copy-spec = tie.close (tie.spec (λ c κs. search needs) (λ c. search needs) (λ c κs. search needs) (λ c. search needs) (λ c κs. search needs) (λ c. search needs) returns (λ c κs. search enters) (λ c. search needs) (λ c. search enters) (λ c. search needs) returns-3)
+copy-spec = tie.close (tie.spec (λ c κs. search needs) (λ c. search needs) (λ c κs. search needs) (λ c. search needs) (λ c κs. search needs)
+    (λ c. search needs) returns (λ c κs. search enters) (λ c. search needs) (λ c. search enters) (λ c. search needs) returns-3)

@@ -38,4 +38,5 @@ returns-2 c =
     left-is (refused _ _ _ _ _ _ (put .1 .0) (put .1 .1) (c .before .number .ensures) (c .if1 .left)) (put .0) refl
 
 pub insert-new-spec : {M : Type 1} → statement M
-insert-new-spec = tie.close (tie.spec (λ c κs. search needs) (λ c κs. search needs) (λ c. search needs) returns (λ c. search needs) returns-2)
+insert-new-spec = tie.close (tie.spec (λ c κs. search needs) (λ c κs. search needs) (λ c. search needs) returns
+    (λ c. search needs) returns-2)

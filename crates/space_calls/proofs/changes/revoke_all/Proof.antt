@@ -28,4 +28,6 @@ returns-2 c =
 
 pub revoke-all-spec : {M : Type 1} → statement M
 unfolding revokeAllOut
-revoke-all-spec = tie.close (tie.spec (λ c κs. search needs) (λ c. search needs) (λ c κs. search needs) (λ c. search needs) (λ c κs. search enters) next-generation-requires (λ c κs. search needs) (λ c. search needs) (λ c. search enters) (λ c. search needs) returns-2)
+revoke-all-spec = tie.close (tie.spec (λ c κs. search needs) (λ c. search needs) (λ c κs. search needs) (λ c. search needs)
+    (λ c κs. search enters) next-generation-requires (λ c κs. search needs) (λ c. search needs) (λ c. search enters)
+    (λ c. search needs) returns-2)

@@ -13,7 +13,8 @@ unfolding checkRightsOut
 returns-2 c =
     let call = c .before .before .before in
     let begun = call .before .before .before .before .before .before .before .before .args in
-    let told = c .held-reply .ensures ∙ ap (λ (l : LookedUp). heldReply (begun .required .0) (l .got) (l .visits)) (call .lookup .ensures .1) in
+    let told = c .held-reply .ensures ∙ ap (λ (l : LookedUp). heldReply (begun .required .0) (l .got) (l .visits))
+    (call .lookup .ensures .1) in
     search enters
 
 pub check-rights-spec : {M : Type 1} → statement M

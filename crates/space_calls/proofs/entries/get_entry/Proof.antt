@@ -15,7 +15,8 @@ unfolding getEntryOut
 returns c =
     let seen = c .before .before .before in
     c .no-entry2 .ensures
-    ∙ sym (space-call _ _ _ (seen .before .before .enter-space .ensures) _ (seen .d .given .1) _ _ ∙ when-yes _ _ _ (le-leb _ _ (c .before .if1 .taken)))
+    ∙ sym (space-call _ _ _ (seen .before .before .enter-space .ensures) _ (seen .d .given .1) _ _
+    ∙ when-yes _ _ _ (le-leb _ _ (c .before .if1 .taken)))
 
 returns-3 : tie.Need-returns-3
 unfolding getEntryOut
@@ -23,8 +24,10 @@ returns-3 c =
     let seen = c .before .before .before .before in
     c .entry-reply .ensures
     ∙ ap (λ (l : LookedUp). entryReply (l .got) (l .visits)) (c .before .get-entry .ensures)
-    ∙ sym (space-call _ _ _ (seen .before .before .enter-space .ensures) _ (seen .d .given .1) _ _ ∙ when-no _ _ _ (lt-leb _ _ (c .before .before .if1 .left)))
+    ∙ sym (space-call _ _ _ (seen .before .before .enter-space .ensures) _ (seen .d .given .1) _ _
+    ∙ when-no _ _ _ (lt-leb _ _ (c .before .before .if1 .left)))
 
 pub get-entry-spec : {M : Type 1} → statement M
 unfolding getEntryOut
-get-entry-spec = tie.close (tie.spec (λ c κs. search needs) (λ c. search needs) (λ c κs. search needs) (λ c. search needs) (λ c κs. search needs) returns (λ c κs. search enters) (λ c κs. search needs) (λ c. search enters) returns-3)
+get-entry-spec = tie.close (tie.spec (λ c κs. search needs) (λ c. search needs) (λ c κs. search needs) (λ c. search needs)
+    (λ c κs. search needs) returns (λ c κs. search enters) (λ c κs. search needs) (λ c. search enters) returns-3)

@@ -22,7 +22,8 @@ returns-2 c =
     let took = c .before .before in
     let call = took .before .before .before .before in
     let seen = call .before .before .before in
-    left-is (c .done .ensures ∙ sym (ap takenReply (took .id .given .1)) ∙ ap takenReply (call .take-id .ensures .1)) (call .take-id .ensures .0)
+    left-is (c .done .ensures ∙ sym (ap takenReply (took .id .given .1)) ∙ ap takenReply (call .take-id .ensures .1))
+    (call .take-id .ensures .0)
     (world-call _ _ (seen .before .before .enter-world .ensures) _ (seen .d .given .1) _ _)
 
 returns-3 : tie.Need-returns-3
@@ -31,8 +32,11 @@ returns-3 c =
     let took = c .before in
     let call = took .before .before .before .before in
     let seen = call .before .before .before in
-    left-is (c .refusal2 .ensures ∙ sym (ap takenReply (took .enum-told .given .1)) ∙ ap takenReply (call .take-id .ensures .1)) (call .take-id .ensures .0)
+    left-is (c .refusal2 .ensures ∙ sym (ap takenReply (took .enum-told .given .1)) ∙ ap takenReply (call .take-id .ensures .1))
+    (call .take-id .ensures .0)
     (world-call _ _ (seen .before .before .enter-world .ensures) _ (seen .d .given .1) _ _)
 
 pub alloc-cap-id-spec : {M : Type 1} → statement M
-alloc-cap-id-spec = tie.close (tie.spec (λ c κs. search needs) (λ c. search needs) (λ c κs. search needs) (λ c. search needs) take-id-requires (λ c. search needs) (λ c κs. search needs) (λ c. search needs) (λ c κs. search needs) (λ c. search needs) returns (λ c. search needs) returns-2 (λ c. search needs) returns-3)
+alloc-cap-id-spec = tie.close (tie.spec (λ c κs. search needs) (λ c. search needs) (λ c κs. search needs)
+    (λ c. search needs) take-id-requires (λ c. search needs) (λ c κs. search needs) (λ c. search needs) (λ c κs. search needs)
+    (λ c. search needs) returns (λ c. search needs) returns-2 (λ c. search needs) returns-3)

@@ -25,7 +25,8 @@ returns-2 c =
     let seen = call .before .before .before in
     let begun = seen .before .before .before .before .before .args in
     makes .create-with .ensures
-    ∙ ap₂ (createTaken _ (begun .s) (begun .rights .0) (begun .object)) (call .take-id .ensures .0) (sym (took .id .given .1) ∙ call .take-id .ensures .1)
+    ∙ ap₂ (createTaken _ (begun .s) (begun .rights .0) (begun .object)) (call .take-id .ensures .0)
+    (sym (took .id .given .1) ∙ call .take-id .ensures .1)
     ∙ sym (space-call _ _ _ (seen .before .before .enter-space .ensures) _ (seen .d .given .1) _ _)
 
 returns-3 : tie.Need-returns-3
@@ -41,4 +42,6 @@ returns-3 c =
 
 pub create-capability-spec : {M : Type 1} → statement M
 unfolding createOut
-create-capability-spec = tie.close (tie.spec (λ c κs. search needs) (λ c. search needs) (λ c κs. search needs) (λ c. search needs) (λ c κs. search enters) (λ c. search needs) create-with-requires (λ c. search needs) (λ c κs. search needs) (λ c. search needs) (λ c. search enters) (λ c. search needs) returns-2 (λ c. search needs) returns-3)
+create-capability-spec = tie.close (tie.spec (λ c κs. search needs) (λ c. search needs) (λ c κs. search needs) (λ c. search needs)
+    (λ c κs. search enters) (λ c. search needs) create-with-requires (λ c. search needs) (λ c κs. search needs) (λ c. search needs)
+    (λ c. search enters) (λ c. search needs) returns-2 (λ c. search needs) returns-3)

@@ -20,7 +20,8 @@ returns c =
     call .insert-new .ensures
     ∙ sym
     (ap (createMade (begun .d) (begun .s) (begun .rights .0) (begun .object) (begun .id) (now (begun .mem)))
-    (ap (λ (f : Facts). made (begun .id) (f .generation) 0 0) (sym (makes .before .facts .ensures)) ∙ sym (makes .from-id-and-generation .ensures) ∙ told .token .given .1))
+    (ap (λ (f : Facts). made (begun .id) (f .generation) 0 0) (sym (makes .before .facts .ensures))
+    ∙ sym (makes .from-id-and-generation .ensures) ∙ told .token .given .1))
 
 returns-2 : tie.Need-returns-2
 unfolding factsOf
@@ -29,7 +30,9 @@ returns-2 c =
     let begun = makes .before .before .before .before .args in
     left-is (c .refusal .ensures) refl
     (ap (createMade (begun .d) (begun .s) (begun .rights .0) (begun .object) (begun .id) (now (begun .mem)))
-    (ap (λ (f : Facts). made (begun .id) (f .generation) 0 0) (sym (makes .before .facts .ensures)) ∙ sym (makes .from-id-and-generation .ensures) ∙ c .before .enum-told .given .1))
+    (ap (λ (f : Facts). made (begun .id) (f .generation) 0 0) (sym (makes .before .facts .ensures))
+    ∙ sym (makes .from-id-and-generation .ensures) ∙ c .before .enum-told .given .1))
 
 pub create-with-spec : {M : Type 1} → statement M
-create-with-spec = tie.close (tie.spec (λ c κs. search needs) (λ c κs. search needs) (λ c. search needs) (λ c κs. search needs) (λ c. search needs) (λ c κs. search needs) (λ c. search needs) returns (λ c. search needs) returns-2)
+create-with-spec = tie.close (tie.spec (λ c κs. search needs) (λ c κs. search needs) (λ c. search needs) (λ c κs. search needs)
+    (λ c. search needs) (λ c κs. search needs) (λ c. search needs) returns (λ c. search needs) returns-2)

@@ -21,10 +21,12 @@ returns-2 c =
     let makes = told .before .before in
     let seen = makes .before .before .before .before in
     let begun = seen .before .before .before .before .before .args in
-    left-is (c .gone-reply .ensures ∙ ap (λ (l : LookedUp). goneReply (l .got) (l .visits)) (call .remove .ensures .1)) (call .remove .ensures .0)
+    left-is (c .gone-reply .ensures ∙ ap (λ (l : LookedUp). goneReply (l .got) (l .visits)) (call .remove .ensures .1))
+    (call .remove .ensures .0)
     (space-call _ _ _ (seen .before .before .enter-space .ensures) _ (seen .d .given .1) _ _
     ∙ ap (revokeMade _ (begun .s) (now (begun .mem)))
-    (ap (λ (f : Facts). made (begun .id) (f .generation) 0 0) (sym (makes .before .facts .ensures)) ∙ sym (makes .from-id-and-generation .ensures) ∙ told .token .given .1))
+    (ap (λ (f : Facts). made (begun .id) (f .generation) 0 0) (sym (makes .before .facts .ensures))
+    ∙ sym (makes .from-id-and-generation .ensures) ∙ told .token .given .1))
 
 returns-3 : tie.Need-returns-3
 unfolding revokeOut factsOf
@@ -36,8 +38,11 @@ returns-3 c =
     left-is (c .refusal2 .ensures) refl
     (space-call _ _ _ (seen .before .before .enter-space .ensures) _ (seen .d .given .1) _ _
     ∙ ap (revokeMade _ (begun .s) (now (begun .mem)))
-    (ap (λ (f : Facts). made (begun .id) (f .generation) 0 0) (sym (makes .before .facts .ensures)) ∙ sym (makes .from-id-and-generation .ensures) ∙ told .answer2 .given .1))
+    (ap (λ (f : Facts). made (begun .id) (f .generation) 0 0) (sym (makes .before .facts .ensures))
+    ∙ sym (makes .from-id-and-generation .ensures) ∙ told .answer2 .given .1))
 
 pub revoke-spec : {M : Type 1} → statement M
 unfolding revokeOut
-revoke-spec = tie.close (tie.spec (λ c κs. search needs) (λ c. search needs) (λ c κs. search needs) (λ c. search needs) (λ c κs. search enters) (λ c κs. search needs) (λ c. search needs) (λ c κs. search enters) (λ c κs. search needs) (λ c. search needs) (λ c κs. search needs) (λ c. search needs) (λ c. search enters) (λ c. search needs) returns-2 (λ c. search needs) returns-3)
+revoke-spec = tie.close (tie.spec (λ c κs. search needs) (λ c. search needs) (λ c κs. search needs) (λ c. search needs)
+    (λ c κs. search enters) (λ c κs. search needs) (λ c. search needs) (λ c κs. search enters) (λ c κs. search needs) (λ c. search needs)
+    (λ c κs. search needs) (λ c. search needs) (λ c. search enters) (λ c. search needs) returns-2 (λ c. search needs) returns-3)

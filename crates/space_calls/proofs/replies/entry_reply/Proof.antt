@@ -15,4 +15,5 @@ returns-2 c =
     c .no-entry .ensures ∙ sym (ap (λ g. entryReply g (c .before .before .before .args .l .visits)) (c .before .enum-told .given .1))
 
 pub entry-reply-spec : {M : Type 1} → statement M
-entry-reply-spec = tie.close (tie.spec (λ c. search needs) (λ c κs. search needs) (λ c. search needs) (λ c κs. search needs) returns returns-2)
+entry-reply-spec = tie.close (tie.spec (λ c. search needs) (λ c κs. search needs) (λ c. search needs)
+    (λ c κs. search needs) returns returns-2)

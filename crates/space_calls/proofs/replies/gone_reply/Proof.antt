@@ -14,4 +14,5 @@ returns-2 c =
     c .absent .ensures ∙ sym (ap (λ g. goneReply g (c .before .before .before .args .l .visits)) (c .before .enum-told2 .given .1))
 
 pub gone-reply-spec : {M : Type 1} → statement M
-gone-reply-spec = tie.close (tie.spec (λ c. search needs) (λ c κs. search needs) (λ c. search needs) (λ c κs. search needs) returns returns-2)
+gone-reply-spec = tie.close (tie.spec (λ c. search needs) (λ c κs. search needs) (λ c. search needs)
+    (λ c κs. search needs) returns returns-2)

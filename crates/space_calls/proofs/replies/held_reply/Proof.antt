@@ -32,4 +32,5 @@ returns-3 c =
     ∙ sym (ap (λ g. heldReply (args .required .0) g (args .l .visits)) (seen .got .given .1))
 
 pub held-reply-spec : {M : Type 1} → statement M
-held-reply-spec = tie.close (tie.spec (λ c. search needs) (λ c. search needs) (λ c κs. search needs) returns (λ c κs. search needs) (λ c κs. search needs) returns-2 (λ c κs. search needs) returns-3)
+held-reply-spec = tie.close (tie.spec (λ c. search needs) (λ c. search needs) (λ c κs. search needs) returns (λ c κs. search needs)
+    (λ c κs. search needs) returns-2 (λ c κs. search needs) returns-3)

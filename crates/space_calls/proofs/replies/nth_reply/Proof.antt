@@ -12,4 +12,5 @@ returns-2 : tie.Need-returns-2
 returns-2 c = c .no-entry .ensures ∙ sym (ap nthReply (c .before .enum-told .given .1))
 
 pub nth-reply-spec : {M : Type 1} → statement M
-nth-reply-spec = tie.close (tie.spec (λ c. search needs) (λ c κs. search needs) (λ c. search needs) (λ c κs. search needs) returns returns-2)
+nth-reply-spec = tie.close (tie.spec (λ c. search needs) (λ c κs. search needs) (λ c. search needs)
+    (λ c κs. search needs) returns returns-2)

@@ -15,4 +15,5 @@ returns-2 c =
     c .absent .ensures ∙ sym (ap (λ g. objectReply g (c .before .before .before .args .l .visits)) (c .before .enum-told .given .1))
 
 pub object-reply-spec : {M : Type 1} → statement M
-object-reply-spec = tie.close (tie.spec (λ c. search needs) (λ c κs. search needs) (λ c. search needs) (λ c κs. search needs) returns returns-2)
+object-reply-spec = tie.close (tie.spec (λ c. search needs) (λ c κs. search needs) (λ c. search needs)
+    (λ c κs. search needs) returns returns-2)

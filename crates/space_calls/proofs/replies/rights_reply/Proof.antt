@@ -15,4 +15,5 @@ returns-2 c =
     c .absent .ensures ∙ sym (ap (λ g. rightsReply g (c .before .before .before .args .l .visits)) (c .before .enum-told .given .1))
 
 pub rights-reply-spec : {M : Type 1} → statement M
-rights-reply-spec = tie.close (tie.spec (λ c. search needs) (λ c. search needs) (λ c κs. search needs) (λ c. search needs) (λ c κs. search needs) returns returns-2)
+rights-reply-spec = tie.close (tie.spec (λ c. search needs) (λ c. search needs) (λ c κs. search needs) (λ c. search needs)
+    (λ c κs. search needs) returns returns-2)

@@ -21,12 +21,14 @@ numbers-requires c κs =
 returns-2 : tie.Need-returns-2
 returns-2 c =
     let read = c .before .before in
-    enters-20 _ (sym (read .before .before .is-sound .ensures) ∙ not-false _ (read .before .if1 .left)) _ _ (read .numbers .ensures) (c .if2 .taken)
+    enters-20 _ (sym (read .before .before .is-sound .ensures) ∙ not-false _ (read .before .if1 .left)) _ _ (read .numbers .ensures)
+    (c .if2 .taken)
 
 returns-3 : tie.Need-returns-3
 returns-3 c =
     let read = c .before .before in
-    enters-space _ (sym (read .before .before .is-sound .ensures) ∙ not-false _ (read .before .if1 .left)) _ _ (read .numbers .ensures) (c .if2 .left)
+    enters-space _ (sym (read .before .before .is-sound .ensures) ∙ not-false _ (read .before .if1 .left)) _ _ (read .numbers .ensures)
+    (c .if2 .left)
 
 pub enter-space-spec : {M : Type 1} → statement M
 enter-space-spec =

@@ -9,8 +9,10 @@ list-children-requires : tie.Need-list-children-requires
 list-children-requires c κs =
     let start = c .before .before .before .before in
     let at = start .registry-at .ensures in
-    let (ready, inside, room) = start .before .before .before .pre in
-    ((inside, ready .registered-fit, omega (arith, ready .fits .in-range .places), registry-long _ _ _ at (ready .fits)), rw (lent-registry _ _ _ at) room)
+    let (ready, inside, room) = start .before .before .before .pre in (
+      (inside, ready .registered-fit, omega (arith, ready .fits .in-range .places), registry-long _ _ _ at (ready .fits)),
+      rw (lent-registry _ _ _ at) room,
+    )
 
 returns : tie.Need-returns
 returns c =

@@ -13,7 +13,8 @@ slice-aggregate-release-all c =
 returns : tie.Need-returns
 returns c =
     let cleared = c .before .before .before .before .before .before .before in
-    clear-done _ _ _ _ _ _ (cleared .before .before .before .ids-of .ensures .0) (cleared .clear-entries .ensures) (c .before .before .release-all .ensures)
+    clear-done _ _ _ _ _ _ (cleared .before .before .before .ids-of .ensures .0) (cleared .clear-entries .ensures)
+    (c .before .before .release-all .ensures)
 
 pub clear-spec : {M : Type 1} → statement M
 clear-spec =

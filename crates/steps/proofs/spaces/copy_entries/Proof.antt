@@ -43,7 +43,8 @@ returns c =
     let wide = from .before .width .ensures in
     let source = lent-space _ _ _ _ _ (from .space-at .ensures) wide in
     let target = lent-space _ _ _ _ _ (to .space-at2 .ensures) wide in (
-      space-back _ _ _ _ _ (to .space-at2 .ensures) wide (copiedSpace (spaceOf (begun .args .d) (begun .args .source) (now (begun .args .mem)))) _
+      space-back _ _ _ _ _ (to .space-at2 .ensures) wide
+          (copiedSpace (spaceOf (begun .args .d) (begun .args .source) (now (begun .args .mem)))) _
           (copied-target _ _ _ _ (begun .pre .0) (begun .pre .1) (begun .pre .2) _ _ _ _ _ source target (length-replicate {A = ℕ} 2048 0)
           (gathers .gather .ensures) _ _ (to .before .generation .ensures) (call .replace .ensures .0)),
       copied-moves _ _ _ _ (begun .pre .0) (begun .pre .1) (begun .pre .2) _ _ _ _ _ source target (length-replicate {A = ℕ} 2048 0)

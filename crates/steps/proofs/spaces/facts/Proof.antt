@@ -23,4 +23,5 @@ pub facts-spec : {M : Type 1} → statement M
 facts-spec =
     tie.close
     (tie.spec (λ c κs. search needs) (λ c κs. search needs) (λ c. search needs) (λ c. search needs) (λ c. search needs) (λ c. search needs)
-    (λ c. search needs) (λ c κs. search lends) (λ c κs. search lends) (λ c κs. search lends) (λ c κs. search lends) (λ c κs. search lends) (λ c κs. search lends) returns)
+    (λ c. search needs) (λ c κs. search lends) (λ c κs. search lends) (λ c κs. search lends) (λ c κs. search lends) (λ c κs. search lends)
+    (λ c κs. search lends) returns)

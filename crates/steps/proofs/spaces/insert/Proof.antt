@@ -8,7 +8,8 @@ returns : tie.Need-returns
 returns c =
     let test = c .before .before .before .before .before in
     let put = test .before .before .before .before .insert-entry .ensures in (
-      insert-accepted _ _ _ _ _ _ _ (put .0) (put .1 .0) (test .before .number .ensures) (test .if1 .taken) _ (c .before .before .hold .ensures),
+      insert-accepted _ _ _ _ _ _ _ (put .0) (put .1 .0) (test .before .number .ensures) (test .if1 .taken) _
+          (c .before .before .hold .ensures),
       put .1,
     )
 

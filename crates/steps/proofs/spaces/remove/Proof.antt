@@ -11,7 +11,8 @@ returns : tie.Need-returns
 returns c =
     let arm = c .before .before .before .before .before in
     let left = arm .before .before .before .before .remove-entry .ensures in (
-      remove-found _ _ _ _ _ _ (left .0) (ap (λ (l : LookedUp). l .got) (left .1)) (ap isEntry (arm .enum-told .given .1)) _ (c .before .before .release .ensures),
+      remove-found _ _ _ _ _ _ (left .0) (ap (λ (l : LookedUp). l .got) (left .1)) (ap isEntry (arm .enum-told .given .1)) _
+          (c .before .before .release .ensures),
       left .1,
     )
 

@@ -1,5 +1,5 @@
 -- `table::copy::copy_entry` meets its contract: an insert of the entry with no uses, its moves added. A rebuild moves at most as many
--- entries as there are slots, so the sum fits. Assumes nothing.
+-- entries as there are slots, so the sum fits.
 use borrow.Author.Needs.{needs}
 use Rattle.table.proofs.CodeInsert.{copy-entry-laws}
 use Rattle.table.proofs.copy.copy_entry.Statement.{statement}

@@ -1,11 +1,11 @@
 -- `table::copy::copy_from` meets its contract. The invariant: copying the entries from i on, into the table as it is by now, gives the
--- whole; and the table is bounded, so that the words lent suffice. The measure is the entries that are left. Assumes nothing.
+-- whole; and the table is bounded, so that the words lent suffice. The measure is the entries that are left.
 use mathlib.Core.Path.{_≡_}
 use Prim.Native.Nat.{_-_, _≤_}
 use native.Mathlib.Omega.{arith}
 use borrow.Author.Needs.{needs}
 use lib.ListN.{length}
-use Rattle.table.specs.Insert.{listed, leaves}
+use Rattle.table.specs.Insert.{scratchEntries, leaves}
 use Rattle.table.specs.Copy.{insertAll}
 use Rattle.table.proofs.CodeCopy.{Bounded, bounded-asks, bounded-goes, copy-goes, copy-laws}
 use Rattle.table.proofs.copy.copy_from.Statement.{statement}
@@ -16,7 +16,7 @@ Inv-loop words₀ scratch count s₀ i₀ words s i =
     (i ≤ count)
     × (length words ≡ length words₀)
     × Bounded count i (leaves words s)
-    × (insertAll (listed scratch i (count - i)) (leaves words s) ≡ insertAll (listed scratch 0 count) (leaves words₀ s₀))
+    × (insertAll (scratchEntries scratch i (count - i)) (leaves words s) ≡ insertAll (scratchEntries scratch 0 count) (leaves words₀ s₀))
 
 abbrev μ-loop : tie.MeasureT-loop
 μ-loop words₀ scratch count s₀ i₀ words s i = count - i

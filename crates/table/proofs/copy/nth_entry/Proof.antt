@@ -1,5 +1,5 @@
--- `table::copy::nth_entry` meets its contract. The invariant: of the live entries from slot i on, the one after `past` others is the answer.
--- The measure is the slots that are left. Assumes nothing.
+-- `table::copy::nth_entry` meets its contract. The invariant: of the live entries from slot i on, the one after `past` others is the
+-- answer. The measure is the slots that are left.
 use mathlib.Core.Path.{_≡_, sym, ap, _∙_}
 use mathlib.Core.List.{List, _∷_}
 use Prim.Native.Nat.{ℕ, suc, _+_, _-_, _<_, _≤_}

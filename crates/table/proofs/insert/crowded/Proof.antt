@@ -1,4 +1,4 @@
--- `table::insert::crowded` meets its contract: its test is the definition's. Assumes nothing.
+-- `table::insert::crowded` meets its contract: its test is the definition's.
 use borrow.Author.Needs.{needs}
 use Rattle.table.specs.Insert.{crowded}
 use Rattle.table.proofs.insert.crowded.Statement.{statement}

@@ -1,5 +1,5 @@
 -- `table::insert::empty_slots` meets its contract. The invariant: the first i slots are emptied. The measure is the slots that are
--- left. Assumes nothing.
+-- left.
 use mathlib.Core.Path.{_≡_}
 use Prim.Native.Nat.{_-_, _≤_}
 use borrow.Author.Needs.{needs}

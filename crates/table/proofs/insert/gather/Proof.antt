@@ -1,5 +1,5 @@
 -- `table::insert::gather` meets its contract. The invariant: gathering from slot i on, into what the scratch holds by now, gives the
--- whole. The measure is the slots that are left. Assumes nothing.
+-- whole. The measure is the slots that are left.
 use mathlib.Core.Path.{_≡_}
 use Prim.Native.Nat.{_-_, _≤_}
 use borrow.Author.Needs.{needs}
@@ -12,7 +12,8 @@ abbrev Inv-loop : tie.InvT-loop
 Inv-loop words slots scratch₀ count₀ i₀ scratch count i =
     (i ≤ slots)
     × (count ≤ i)
-    × (gathered words i (slots - i) (record { kept = scratch; count = count }) ≡ gathered words 0 slots (record { kept = scratch₀; count = 0 }))
+    × (gathered words i (slots - i) (record { kept = scratch; count = count })
+    ≡ gathered words 0 slots (record { kept = scratch₀; count = 0 }))
 
 abbrev μ-loop : tie.MeasureT-loop
 μ-loop words slots scratch₀ count₀ i₀ scratch count i = slots - i

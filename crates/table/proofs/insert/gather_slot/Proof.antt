@@ -1,4 +1,4 @@
--- `table::insert::gather_slot` meets its contract: gathering one slot goes by what it is. Assumes nothing.
+-- `table::insert::gather_slot` meets its contract: gathering one slot goes by what it is.
 use mathlib.Core.Path.{_≡_}
 use mathlib.Core.List.{List}
 use Prim.Native.Nat.{ℕ, _+_}

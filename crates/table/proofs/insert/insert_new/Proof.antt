@@ -1,4 +1,4 @@
--- `table::insert::insert_new` meets its contract: a crowded table is rebuilt first, then the entry is placed. Assumes nothing.
+-- `table::insert::insert_new` meets its contract: a crowded table is rebuilt first, then the entry is placed.
 use borrow.Author.Needs.{needs}
 use Rattle.table.proofs.CodeInsert.{insert-laws}
 use Rattle.table.proofs.insert.insert_new.Statement.{statement}

@@ -1,4 +1,4 @@
--- `table::insert::make_room` meets its contract: the rebuild of `enlarged`. Assumes nothing.
+-- `table::insert::make_room` meets its contract: the rebuild of `enlarged`.
 use mathlib.Core.Path.{_≡_}
 use mathlib.Core.List.{List}
 use Prim.Native.Nat.{ℕ}

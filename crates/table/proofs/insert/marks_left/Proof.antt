@@ -1,4 +1,4 @@
--- `table::insert::marks_left` meets its contract: one mark less where there is one, and none to take from 0. Assumes nothing.
+-- `table::insert::marks_left` meets its contract: one mark less where there is one, and none to take from 0.
 use mathlib.Core.Path.{_≡_}
 use mathlib.Core.List.{List}
 use Prim.Native.Nat.{ℕ, _-_}

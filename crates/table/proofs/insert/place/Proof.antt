@@ -1,4 +1,4 @@
--- `table::insert::place` meets its contract: the first slot that is not live, and a mark there used up. Assumes nothing.
+-- `table::insert::place` meets its contract: the first slot that is not live, and a mark there used up.
 use mathlib.Core.Path.{_≡_}
 use mathlib.Core.List.{List}
 use Prim.Native.Nat.{ℕ, _+_, _-_}

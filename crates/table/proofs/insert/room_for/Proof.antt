@@ -1,4 +1,4 @@
--- `table::insert::room_for` meets its contract, by the definition of `roomFor`. Assumes nothing.
+-- `table::insert::room_for` meets its contract, by the definition of `roomFor`.
 use borrow.Author.Needs.{needs}
 use Rattle.table.specs.Insert.{roomFor}
 use Rattle.table.proofs.insert.room_for.Statement.{statement}

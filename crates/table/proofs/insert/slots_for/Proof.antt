@@ -1,4 +1,4 @@
--- `table::insert::slots_for` meets its contract: the larger of 8 and the power. Assumes nothing.
+-- `table::insert::slots_for` meets its contract: the larger of 8 and the power.
 use native.Mathlib.Omega.{arith}
 use borrow.Author.Needs.{needs}
 use Rattle.table.proofs.laws.Room.{slots-few}

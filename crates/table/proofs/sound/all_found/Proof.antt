@@ -1,5 +1,5 @@
 -- `table::sound::all_found` meets its contract: the searches of the first j slots end where they must. The measure is what is left of
--- the list. Assumes nothing.
+-- the list.
 use mathlib.Core.Path.{_≡_, ap, _∙_}
 use mathlib.Core.Bool.{Bool, true, false}
 use mathlib.Core.List.{List}
@@ -22,7 +22,11 @@ here ws slots live j = endsHere ws slots (getD live j 0)
 
 module _ (ws : List ℕ) (slots : ℕ) (live : List ℕ) (j i : ℕ) (this : i ≡ getD live j 0) where
   below : all (length live) (λ j. ltb (getD live j 0) slots) ≡ true → j < length live → i < slots
-  below listed l = omega (arith, ltb-true (getD live j 0) slots (all-at (length live) (λ j. ltb (getD live j 0) slots) listed j l))
+  below scratchEntries l = omega (
+    arith,
+    ltb-true (getD live j 0) slots
+        (all-at (length live) (λ j. ltb (getD live j 0) slots) scratchEntries j l),
+  )
 
   module _ (r : Bool) (e : r ≡ endsHere ws slots i) where
     goes : all j (here ws slots live) ≡ true → r ≡ true → all (j + 1) (here ws slots live) ≡ true
@@ -42,7 +46,8 @@ ruleset laws = (needs, all-none, all-done, below, goes)
 returns : tie.Need-returns Inv-loop μ-loop
 returns c =
     let start = c .before .before .before .before .before .before .before .before in
-    stops _ _ (now (start .args .live)) _ _ (c .before .before .wide .ensures) _ (c .before .is-found .ensures) (c .before .before .before .before .loop-test .taken) (c .if1 .left)
+    stops _ _ (now (start .args .live)) _ _ (c .before .before .wide .ensures) _ (c .before .is-found .ensures)
+    (c .before .before .before .before .loop-test .taken) (c .if1 .left)
 
 pub all-found-spec : {M : Type 1} → statement M
 all-found-spec =

@@ -1,4 +1,4 @@
--- `table::sound::counts_fit` meets its contract: each exit is one of its three tests decided. Assumes nothing.
+-- `table::sound::counts_fit` meets its contract: each exit is one of its three tests decided.
 use mathlib.Core.Path.{_≡_}
 use mathlib.Core.Bool.{Bool, true, false}
 use Prim.Native.Nat.{ℕ, _+_, _*_, _<_, _≤_}

@@ -1,4 +1,4 @@
--- `table::sound::ends_at` meets its contract: its arms are those of `endsAt`. Assumes nothing.
+-- `table::sound::ends_at` meets its contract: its arms are those of `endsAt`.
 use mathlib.Core.Path.{ap, sym}
 use borrow.Author.Needs.{needs}
 use Rattle.table.specs.Sound.{endsAt}

@@ -1,4 +1,4 @@
--- `table::sound::is_capacity` meets its contract: the code's tests are those of `capacityTest`, in its order. Assumes nothing.
+-- `table::sound::is_capacity` meets its contract: the code's tests are those of `capacityTest`, in its order.
 use mathlib.Core.Path.{_≡_}
 use mathlib.Core.Bool.{true, false}
 use Prim.Native.Nat.{ℕ, _<_, _≤_}

@@ -1,4 +1,4 @@
--- `table::sound::is_found` meets its contract. Assumes nothing.
+-- `table::sound::is_found` meets its contract.
 use mathlib.Core.Path.{_≡_, _∙_}
 use mathlib.Core.Bool.{Bool}
 use mathlib.Core.List.{List}

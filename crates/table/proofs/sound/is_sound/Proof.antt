@@ -1,5 +1,5 @@
 -- `table::sound::is_sound` meets its contract: it makes the tests of `soundTest` in another order, the capacity first, which keeps the
--- rest in range. Assumes nothing.
+-- rest in range.
 use mathlib.Core.Path.{_≡_, sym, _∙_}
 use mathlib.Core.Bool.{Bool, true, false, not, true≢false}
 use mathlib.Core.List.{List}
@@ -42,7 +42,8 @@ module _ (most slots : ℕ) (b : Bool) (e : b ≡ capacityTest most slots) (good
   few = capacity-le most slots (capacity-exactly most slots .0 capacity)
 
 rest :
-    (most : ℕ) (ws : List ℕ) (t : CapTable) (b f r : Bool) → b ≡ capacityTest most (t .slots) → not b ≡ false → f ≡ fit most t → not f ≡ false
+    (most : ℕ) (ws : List ℕ) (t : CapTable) (b f r : Bool) → b ≡ capacityTest most (t .slots) → not b ≡ false → f ≡ fit most t
+    → not f ≡ false
     → r ≡ both (codedTest ws (t .slots)) (both (countsTest ws t) (foundTest ws (t .slots))) → r ≡ soundTest most ws t
 unfolding soundTest
 rest most ws t b f r e good g fits last =
@@ -59,13 +60,21 @@ rest most ws t b f r e good g fits last =
 counts-fit-requires : tie.Need-counts-fit-requires
 counts-fit-requires c κs =
     let args = c .before .before .before .args in
-    omega (arith, few (args .most) (args .t .slots) _ (c .before .is-capacity .ensures) (c .if1 .left), slots-few (args .most) (omega arith))
+    omega (
+      arith,
+      few (args .most) (args .t .slots) _ (c .before .is-capacity .ensures) (c .if1 .left),
+      slots-few (args .most) (omega arith),
+    )
 
 slots-sound-requires : tie.Need-slots-sound-requires
 slots-sound-requires c κs =
     let args = c .before .before .before .before .before .args in
     let capacity = c .before .before in
-    omega (arith, few (args .most) (args .t .slots) _ (capacity .before .is-capacity .ensures) (capacity .if1 .left), slots-few (args .most) (omega arith))
+    omega (
+      arith,
+      few (args .most) (args .t .slots) _ (capacity .before .is-capacity .ensures) (capacity .if1 .left),
+      slots-few (args .most) (omega arith),
+    )
 
 pub is-sound-spec : {M : Type 1} → statement M
 is-sound-spec =

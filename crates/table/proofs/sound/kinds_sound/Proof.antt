@@ -1,5 +1,5 @@
 -- `table::sound::kinds_sound` meets its contract. The invariant: the first i slots are counted by kind, and the numbers of the live ones
--- are written. The measure is the slots that are left. Assumes nothing.
+-- are written. The measure is the slots that are left.
 use mathlib.Core.Path.{_≡_, refl, _∙_}
 use mathlib.Core.Bool.{Bool, false}
 use mathlib.Core.List.{List}
@@ -14,7 +14,7 @@ use lib.Dec.{eqb}
 use lib.ListN.{set}
 use Rattle.base.specs.Choose.{both}
 use Rattle.base.specs.Below.{sum, one}
-use Rattle.base.specs.Listed.{passing, listed, all-passing}
+use Rattle.base.specs.Compacted.{passing, compacted, all-passing}
 use Rattle.base.specs.SumLaws.{sum-goes}
 use Rattle.table.specs.Slots.{isLive, isRemoved}
 use Rattle.table.specs.Sound.{codedAt, codedTest, countsTest, liveSlots}
@@ -34,7 +34,7 @@ record Done (ws : List ℕ) (slots : ℕ) (xs₀ xs : List ℕ) (n removed coded
   written : xs ≡ liveSlots ws i xs₀
 
 starts : (ws : List ℕ) (slots : ℕ) (xs : List ℕ) → Done ws slots xs xs 0 0 0 0
-unfolding sum liveSlots listed
+unfolding sum liveSlots compacted
 starts ws slots xs = record {
   inside = omega arith;
   few-live = omega arith;
@@ -48,9 +48,10 @@ starts ws slots xs = record {
 
 module _ (ws : List ℕ) (slots : ℕ) (xs₀ xs : List ℕ) (n removed coded i : ℕ) (done : Done ws slots xs₀ xs n removed coded i) where
   goes :
-      (l r k : ℕ) → i < slots → (l ≡ one (isLive ws i)) × (l ≤ 1) → (r ≡ one (isRemoved ws i)) × (r ≤ 1) → (k ≡ one (codedAt ws i)) × (k ≤ 1)
+      (l r k : ℕ) → i < slots → (l ≡ one (isLive ws i)) × (l ≤ 1) → (r ≡ one (isRemoved ws i)) × (r ≤ 1)
+      → (k ≡ one (codedAt ws i)) × (k ≤ 1)
       → Done ws slots xs₀ (set xs n i) (n + l) (removed + r) (coded + k) (i + 1)
-  unfolding liveSlots listed
+  unfolding liveSlots compacted
   goes l r k u (live, live-one) (mark, mark-one) (listed-kind, listed-one) = record {
     inside = omega arith;
     few-live = omega (arith, done .few-live);
@@ -65,7 +66,8 @@ module _ (ws : List ℕ) (slots : ℕ) (xs₀ xs : List ℕ) (n removed coded i 
   whole : slots ≤ i → Done ws slots xs₀ xs n removed coded slots
   whole past = rw (le-antisymm (done .inside) past) at done
 
-module _ (ws : List ℕ) (t : CapTable) (xs₀ xs : List ℕ) (n removed coded i : ℕ) (done : Done ws (t .slots) xs₀ xs n removed coded i) (past : t .slots ≤ i)
+module _ (ws : List ℕ) (t : CapTable) (xs₀ xs : List ℕ) (n removed coded i : ℕ) (done : Done ws (t .slots) xs₀ xs n removed coded i)
+    (past : t .slots ≤ i)
   where
     all-done : Done ws (t .slots) xs₀ xs n removed coded (t .slots)
     all-done = whole ws (t .slots) xs₀ xs n removed coded i done past
@@ -109,8 +111,10 @@ returns-2 c =
 returns-3 : tie.Need-returns-3 Inv-loop μ-loop
 returns-3 c =
     let past = c .before .before .before .before .loop-test .left in
-    let done = c .before .before .before .before .before .loop .inv in
-    (counted _ _ _ _ _ _ _ _ done past (c .before .before .before .if1 .left) (c .before .if2 .left), whole _ _ _ _ _ _ _ _ done past .written)
+    let done = c .before .before .before .before .before .loop .inv in (
+      counted _ _ _ _ _ _ _ _ done past (c .before .before .before .if1 .left) (c .before .if2 .left),
+      whole _ _ _ _ _ _ _ _ done past .written,
+    )
 
 pub kinds-sound-spec : {M : Type 1} → statement M
 kinds-sound-spec =

@@ -1,4 +1,4 @@
--- `table::sound::one_of` meets its contract. Assumes nothing.
+-- `table::sound::one_of` meets its contract.
 use mathlib.Core.Path.{_≡_}
 use mathlib.Core.List.{List}
 use Prim.Native.Nat.{ℕ}

@@ -12,7 +12,7 @@ use lib.Seq.{length-take-le, getD-take}
 use Rattle.base.specs.Below.{all}
 use Rattle.base.specs.AllLaws.{all-make, all-ext}
 use Rattle.base.specs.Choose.{pick, both, both-left, both-right}
-use Rattle.base.specs.Listed.{passing, length-listed, listed-all}
+use Rattle.base.specs.Compacted.{passing, length-compacted, compacted-all}
 use Rattle.base.specs.SumLaws.{sum-one-le}
 use Rattle.table.specs.Slots.{isLive, isRemoved}
 use Rattle.table.specs.Sound.{endsHere, codedTest, countsTest, foundTest, liveSlots}
@@ -37,7 +37,8 @@ fails ws t r e bad = go (codedTest ws (t .slots)) (countsTest ws t) (sym e ∙ n
     go false counts h = refl
 
 -- What is known where the kinds are sound: xs are the numbers of the live slots, and there are n of them.
-module _ (ws : List ℕ) (t : CapTable) (few : t .slots ≤ 512) (r : Bool) (e : r ≡ kinds ws t) (good : not r ≡ false) (xs : List ℕ) (written : xs ≡ liveSlots ws (t .slots) zeros)
+module _ (ws : List ℕ) (t : CapTable) (few : t .slots ≤ 512) (r : Bool) (e : r ≡ kinds ws t) (good : not r ≡ false) (xs : List ℕ)
+    (written : xs ≡ liveSlots ws (t .slots) zeros)
   where
     counts : countsTest ws t ≡ true
     counts = both-right (codedTest ws (t .slots)) (countsTest ws t) (sym e ∙ not-false r good)
@@ -53,27 +54,30 @@ module _ (ws : List ℕ) (t : CapTable) (few : t .slots ≤ 512) (r : Bool) (e :
     fits : t .full ≤ length xs
     unfolding liveSlots
     fits =
-        rw (written, length-listed, length-replicate) (omega (arith, live-is, sum-one-le (isLive ws) (t .slots)))
+        rw (written, length-compacted, length-replicate) (omega (arith, live-is, sum-one-le (isLive ws) (t .slots)))
 
     taken : length (take (t .full) xs) ≡ t .full
     taken = length-take-le (t .full) xs fits
 
     -- What the listed slots pass, each live slot passes.
-    each : (q : ℕ → Bool) → all (length (take (t .full) xs)) (λ j. q (getD (take (t .full) xs) j 0)) ≡ all (t .slots) (λ i. pick (isLive ws i) (q i) true)
+    each : (q : ℕ → Bool) → all (length (take (t .full) xs)) (λ j. q (getD (take (t .full) xs) j 0))
+        ≡ all (t .slots) (λ i. pick (isLive ws i) (q i) true)
     unfolding liveSlots
     each q =
         ap (λ m. all m (λ j. q (getD (take (t .full) xs) j 0))) taken
         ∙ all-ext (t .full) (λ j. q (getD (take (t .full) xs) j 0)) (λ j. q (getD xs j 0)) (λ j l. ap q (getD-take (t .full) xs j 0 l))
-        ∙ rw (written, ← live-is) (listed-all q (λ i. i) (isLive ws) (t .slots) zeros (rw length-replicate few))
+        ∙ rw (written, ← live-is) (compacted-all q (λ i. i) (isLive ws) (t .slots) zeros (rw length-replicate few))
 
     below : all (length (take (t .full) xs)) (λ j. ltb (getD (take (t .full) xs) j 0) (t .slots)) ≡ true
-    below = each (λ i. ltb i (t .slots)) ∙ all-make (t .slots) (λ i. pick (isLive ws i) (ltb i (t .slots)) true) (λ i l. go (isLive ws i) i l)
+    below = each (λ i. ltb i (t .slots)) ∙ all-make (t .slots) (λ i. pick (isLive ws i) (ltb i (t .slots)) true)
+        (λ i l. go (isLive ws i) i l)
       where
         go : (live : Bool) (i : ℕ) → i < t .slots → pick live (ltb i (t .slots)) true ≡ true
         go true i l = lt-ltb i (t .slots) l
         go false i l = refl
 
-    decides : (b : Bool) → b ≡ all (length (take (t .full) xs)) (λ j. endsHere ws (t .slots) (getD (take (t .full) xs) j 0)) → b ≡ passes ws t
+    decides : (b : Bool) → b ≡ all (length (take (t .full) xs)) (λ j. endsHere ws (t .slots) (getD (take (t .full) xs) j 0))
+        → b ≡ passes ws t
     decides b h = rw (coded, counts) (h ∙ each (endsHere ws (t .slots)))
 
 array-share-prefix-live : tie.Need-array-share-prefix-live

@@ -1,4 +1,4 @@
--- `table::walk::find` meets its contract: no slots, the two ways to end at home, and the search from the next slot on. Assumes nothing.
+-- `table::walk::find` meets its contract: no slots, the two ways to end at home, and the search from the next slot on.
 use borrow.Author.Needs.{needs}
 use Rattle.table.proofs.CodeWalk.{home-laws}
 use Rattle.table.proofs.walk.find.Statement.{statement}

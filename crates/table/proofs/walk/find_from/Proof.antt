@@ -1,5 +1,5 @@
 -- `table::walk::find_from` meets its contract. The invariant: after `passed` visits the search goes on at slot i, and answers that many
--- visits more than the search from there on. The measure is the slots that are left. Assumes nothing.
+-- visits more than the search from there on. The measure is the slots that are left.
 use mathlib.Core.Path.{_≡_}
 use Prim.Native.Nat.{_-_, _<_, _≤_}
 use borrow.Author.Needs.{needs}

@@ -1,5 +1,5 @@
 -- `table::walk::free_for` meets its contract. The invariant: after `steps` steps the walk stands at slot i, and the steps to a free
--- slot are those that are still to be counted. The measure is the slots that are left. Assumes nothing.
+-- slot are those that are still to be counted. The measure is the slots that are left.
 use mathlib.Core.Path.{_≡_}
 use Prim.Native.Nat.{_-_, _<_, _≤_}
 use borrow.Author.Needs.{needs}

@@ -1,4 +1,4 @@
--- `table::walk::has_id` meets its contract: the id is read only of a live slot. Assumes nothing.
+-- `table::walk::has_id` meets its contract: the id is read only of a live slot.
 use mathlib.Core.Path.{_≡_}
 use mathlib.Core.Bool.{false}
 use mathlib.Core.List.{List}

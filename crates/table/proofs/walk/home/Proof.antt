@@ -1,5 +1,5 @@
 -- `table::walk::home` meets its contract: where `slots & (slots - 1)` is 0 the slot count is a power of two, and the mask is the
--- remainder. Assumes nothing.
+-- remainder.
 use mathlib.Core.Path.{_≡_, refl, ap, sym, _∙_}
 use mathlib.Core.Bool.{Bool, true}
 use Prim.Native.Nat.{ℕ, _+_, _-_, _/_, _%_, _^_, _<_, _≤_}

@@ -1,4 +1,4 @@
--- `table::words::entry_at` meets its contract: each field is read from the word that `entryAt` names. Assumes nothing.
+-- `table::words::entry_at` meets its contract: each field is read from the word that `entryAt` names.
 use borrow.Author.Needs.{needs}
 use Rattle.table.specs.Slots.{entryAt}
 use Rattle.table.proofs.words.entry_at.Statement.{statement}

@@ -1,4 +1,4 @@
--- `table::words::put_entry` meets its contract: the four stores are `putEntry`'s, and a store keeps the length. Assumes nothing.
+-- `table::words::put_entry` meets its contract: the four stores are `putEntry`'s, and a store keeps the length.
 use native.Mathlib.Omega.{arith}
 use borrow.Author.Needs.{needs}
 use lib.ListN.{length-set}

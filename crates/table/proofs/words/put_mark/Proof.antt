@@ -1,4 +1,4 @@
--- `table::words::put_mark` meets its contract: the one store is `putMark`'s. Assumes nothing.
+-- `table::words::put_mark` meets its contract: the one store is `putMark`'s.
 use borrow.Author.Needs.{needs}
 use Rattle.table.specs.Slots.{putMark}
 use Rattle.table.proofs.words.put_mark.Statement.{statement}

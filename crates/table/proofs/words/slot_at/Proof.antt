@@ -1,4 +1,4 @@
--- `table::words::slot_at` meets its contract: the tests of the kind are those of `slotAt`, in its order. Assumes nothing.
+-- `table::words::slot_at` meets its contract: the tests of the kind are those of `slotAt`, in its order.
 use mathlib.Core.Path.{_≡_}
 use mathlib.Core.List.{List}
 use Prim.Native.Nat.{ℕ}

@@ -18,7 +18,8 @@ zeros = replicate 512 0
 
 -- What is known once the ids are written.
 module _
-    (ws : List ℕ) (slots : ℕ) (xs : List ℕ) (n : ℕ) (few : slots ≤ 512) (told : (n ≡ liveBelow ws slots) × (n ≤ slots)) (written : xs ≡ liveIds ws slots zeros)
+    (ws : List ℕ) (slots : ℕ) (xs : List ℕ) (n : ℕ) (few : slots ≤ 512) (told : (n ≡ liveBelow ws slots) × (n ≤ slots))
+    (written : xs ≡ liveIds ws slots zeros)
   where
     long : length xs ≡ 512
     long = rw (written, length-live, length-replicate)
@@ -27,7 +28,8 @@ module _
     taken = length-take-le n xs (omega (arith, long, told .1))
 
     counted :
-        (ids counts after : List ℕ) → after ≡ countEntries ids (take n xs) (length (take n xs)) counts → after ≡ countSlots ids ws slots counts
+        (ids counts after : List ℕ) → after ≡ countEntries ids (take n xs) (length (take n xs)) counts
+        → after ≡ countSlots ids ws slots counts
     counted ids counts after e =
         e ∙ ap (λ m. countEntries ids (take n xs) m counts) taken
         ∙ entries-ext ids (take n xs) xs n counts (λ k l. getD-take n xs k 0 l)

@@ -48,7 +48,8 @@ from-spaces c = c .before .before .before .before .before .before .before .befor
 
 placed :
     (c : tie.After-registry-at)
-    → Placed (begun c .args .d) (now (begun c .args .mem)) (now (begun c .args .heads)) (now (begun c .args .prevs)) (now (begun c .args .counts)) (c .registry-at .result)
+    → Placed (begun c .args .d) (now (begun c .args .mem)) (now (begun c .args .heads)) (now (begun c .args .prevs))
+    (now (begun c .args .counts)) (c .registry-at .result)
 placed c =
     let (head, (unindexed, (room, uncounted))) = begun c .pre in
     record { head = head; unindexed = unindexed; room = room; uncounted = uncounted; start-is = c .registry-at .ensures .is }
@@ -108,7 +109,8 @@ module _ {d : Numbers} {mem heads prevs counts₀ : List ℕ} {start : ℕ} (p :
           holders-decide {h} g =
               passes r (idsTest d mem) _ h ids-tested t
               (passes s (spacesTest d mem) (holdersTest d mem) h f u
-              (g ∙ held-by-tally (registeredOf mem) rg counts (stateAt (d .places) rg) (spacesWith d mem) ids-fit (looked .tally) ∙ rw rg-is))
+              (g ∙ held-by-tally (registeredOf mem) rg counts (stateAt (d .places) rg) (spacesWith d mem) ids-fit (looked .tally)
+              ∙ rw rg-is))
 
 shared-slice-read-n : tie.Need-shared-slice-read-n
 unfolding lengthFor
@@ -145,7 +147,8 @@ returns-2 c =
     let counted = c .before .before .before in
     let called = from-spaces counted in
     let passed = counted .before .before .before .before .before .if1 .left in
-    spaces-fail (placed (from-registry called)) (called .registry-sound .ensures .0) passed (counted .spaces-sound .ensures .0) (c .if2 .taken)
+    spaces-fail (placed (from-registry called)) (called .registry-sound .ensures .0) passed (counted .spaces-sound .ensures .0)
+    (c .if2 .taken)
 
 holders-within-requires : tie.Need-holders-within-requires
 holders-within-requires c κs =
@@ -165,7 +168,8 @@ returns-3 c =
     let passed = counted .before .before .before .before .before .if1 .left in
     let (told, tally) = counted .spaces-sound .ensures in
     let still = c .before .before .if2 .left in
-    holders-decide (placed (from-registry called)) (called .registry-sound .ensures .0) passed told still (tally (not-false _ still)) (c .holders-within .ensures)
+    holders-decide (placed (from-registry called)) (called .registry-sound .ensures .0) passed told still (tally (not-false _ still))
+    (c .holders-within .ensures)
 
 pub holdings-by-spec : {M : Type 1} → statement M
 holdings-by-spec =

@@ -8,7 +8,7 @@ use native.Mathlib.Omega.{arith}
 use borrow.Author.Needs.{needs}
 use lib.ListN.{set}
 use Rattle.base.specs.Below.{sum, one}
-use Rattle.base.specs.Listed.{listed}
+use Rattle.base.specs.Compacted.{compacted}
 use Rattle.base.specs.SumLaws.{sum-goes, sum-done}
 use Rattle.table.specs.Slots.{isLive, idOf, entryAt}
 use Rattle.table.specs.declared.CapabilityEntry.{CapabilityEntry}
@@ -24,14 +24,14 @@ record Done (ws : List ℕ) (slots : ℕ) (xs₀ xs : List ℕ) (n i : ℕ) : Ty
   written : xs ≡ liveIds ws i xs₀
 
 starts : (ws : List ℕ) (slots : ℕ) (xs : List ℕ) → Done ws slots xs xs 0 0
-unfolding sum liveIds listed
+unfolding sum liveIds compacted
 starts ws slots xs = record { inside = omega arith; few = omega arith; live = refl; written = refl }
 
 module _ (ws : List ℕ) (slots : ℕ) (xs₀ xs : List ℕ) (n i : ℕ) (done : Done ws slots xs₀ xs n i) where
   goes :
       (entry : CapabilityEntry) (v more : ℕ) → i < slots → entry ≡ entryAt ws i → v ≡ idOf entry → more ≡ one (isLive ws i) → more ≤ 1
       → Done ws slots xs₀ (set xs n v) (n + more) (i + 1)
-  unfolding entryAt liveIds listed
+  unfolding entryAt liveIds compacted
   goes entry v more l e h o u = record {
     inside = omega arith;
     few = omega (arith, done .few);

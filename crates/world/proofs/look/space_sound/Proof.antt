@@ -30,7 +30,8 @@ record Placed (d : Numbers) (mem : List ℕ) (s start w : ℕ) : Type 0 where
 abbrev begun : tie.After-width → tie.Start
 begun c = c .before .before .before .before .before .before .before
 
-placed : (c : tie.After-width) → Placed (begun c .args .d) (now (begun c .args .mem)) (begun c .args .s) (c .before .space-at .result) (c .width .result)
+placed : (c : tie.After-width) → Placed (begun c .args .d) (now (begun c .args .mem)) (begun c .args .s) (c .before .space-at .result)
+    (c .width .result)
 placed c = record {
   head = begun c .pre .0 .0;
   there = begun c .pre .0 .1;
@@ -64,15 +65,18 @@ module _ {d : Numbers} {mem : List ℕ} {s start w : ℕ} (p : Placed d mem s st
       fit : 8 + 4 * tableOf sp .slots ≤ length sp
       fit = omega (arith, slots-fit (d .most) sp sound, long)
 
-      counted : {ids counts after : List ℕ} → Looked d mem ids s counts → after ≡ countSlots ids (slotWords sp) (tableOf sp .slots) counts → Looked d mem ids (s + 1) after
+      counted : {ids counts after : List ℕ} → Looked d mem ids s counts → after ≡ countSlots ids (slotWords sp) (tableOf sp .slots) counts
+          → Looked d mem ids (s + 1) after
       counted {ids} {counts} looked h = rw (h, sp-is) (looked-more d mem ids s counts looked (rw sp-is at sound) (rw sp-is at few))
 
 is-sound-requires : tie.Need-is-sound-requires
 is-sound-requires c κs = (omega arith, omega (arith, long (placed (c .before))))
 
 returns : tie.Need-returns
-returns c =
-    (sym (not-true _ (c .if1 .taken)) ∙ tested (placed (c .before .before .before)) (c .before .is-sound .ensures), λ e. absurd (true≢false (sym e)))
+returns c = (
+  sym (not-true _ (c .if1 .taken)) ∙ tested (placed (c .before .before .before)) (c .before .is-sound .ensures),
+  λ e. absurd (true≢false (sym e)),
+)
 
 count-space-requires : tie.Need-count-space-requires
 count-space-requires c κs =

@@ -19,8 +19,11 @@ abbrev μ-loop : tie.MeasureT-loop
 
 returns : tie.Need-returns Inv-loop μ-loop
 unfolding spacesTest
-returns c =
-    (all-stops _ _ _ _ (c .before .before .before .before .before .if1 .taken) (c .before .before .before .space-sound .ensures .0) (c .if2 .left), λ e. absurd (true≢false (sym e)))
+returns c = (
+  all-stops _ _ _ _ (c .before .before .before .before .before .if1 .taken) (c .before .before .before .space-sound .ensures .0)
+      (c .if2 .left),
+  λ e. absurd (true≢false (sym e)),
+)
 
 returns-2 : tie.Need-returns-2 Inv-loop μ-loop
 unfolding spacesTest

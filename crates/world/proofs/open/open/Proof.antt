@@ -9,7 +9,8 @@ use Rattle.world.specs.Open.{recordTest, good, opening-21, opening-26, o
 use Rattle.world.proofs.open.open.Statement.{statement}
 use Rattle.world.proofs.open.open.Tie as tie
 
-passed : (c : tie.Else1) → recordTest (c .before .before .before .before .args .d) (now (c .before .before .before .before .args .quotas)) ≡ true
+passed : (c : tie.Else1) → recordTest (c .before .before .before .before .args .d) (now (c .before .before .before .before .args .quotas))
+    ≡ true
 passed c = sym (c .before .good-record .ensures) ∙ not-false _ (c .if1 .left)
 
 returns : tie.Need-returns

@@ -17,7 +17,8 @@ unfolding openSpace
 returns c =
     let at = c .before .before .before .before .before .before in
     let args = at .before .before .args in
-    lent-region (args .d) (space (args .s)) _ _ _ (openSpace (args .quota)) _ (at .space-at .ensures .is) (omega arith) (c .before .before .put-words .ensures)
+    lent-region (args .d) (space (args .s)) _ _ _ (openSpace (args .quota)) _ (at .space-at .ensures .is) (omega arith)
+    (c .before .before .put-words .ensures)
 
 pub open-space-spec : {M : Type 1} → statement M
 open-space-spec =

@@ -17,7 +17,7 @@ use Rattle.token.specs.declared.flags.Combined.the-variants.{Flags}
 use Rattle.token.specs.declared.flags.Named.{Named}
 use Rattle.token.specs.declared.flags.Named.the-variants.{Flag}
 use Rattle.token.specs.BitsLaws.{or-assoc}
-use Rattle.token.specs.Flags.{place, named, allFlags, unionOf, combined}
+use Rattle.token.specs.Flags.{bitOf, named, allFlags, unionOf, combined}
 use Rattle.token.specs.FlagsLaws.{named-by-its-number}
 use Rattle.token.proofs.flags.CapabilityFlags.combine.Statement.{statement}
 use Rattle.token.proofs.flags.CapabilityFlags.combine.Tie as tie
@@ -31,7 +31,7 @@ unfolding from
 starts ns = refl
 
 goes : (ns : List ℕ) (flags i n : ℕ) (r : Combined) (found : Named) (perm : CapabilityFlags)
-    → i < length ns → found ≡ named (getD ns i 0) → found ≡ Flag perm → n ≡ 2 ^ place perm
+    → i < length ns → found ≡ named (getD ns i 0) → found ≡ Flag perm → n ≡ 2 ^ bitOf perm
     → from flags (drop i ns) ≡ r → from (bitOr flags n) (drop (i + 1) ns) ≡ r
 unfolding from
 goes ns flags i n r found perm h told is-flag number left =

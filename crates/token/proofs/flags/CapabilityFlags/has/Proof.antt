@@ -11,7 +11,7 @@ use lib.Dec.{eqb}
 use lib.Pow.{pow-pos}
 use Rattle.token.specs.Bits.{bit}
 use Rattle.token.specs.BitsLaws.{of-bit, and-one}
-use Rattle.token.specs.Flags.{place}
+use Rattle.token.specs.Flags.{bitOf}
 use Rattle.token.proofs.flags.CapabilityFlags.has.Statement.{statement}
 use Rattle.token.proofs.flags.CapabilityFlags.has.Tie as tie
 
@@ -24,7 +24,7 @@ masked flags i =
     flags i)
 
 returns : tie.Need-returns
-returns c = rw (c .number .ensures) (masked (c .before .args .flags) (place (c .before .args .perm)))
+returns c = rw (c .number .ensures) (masked (c .before .args .flags) (bitOf (c .before .args .perm)))
 
 pub has-spec : {M : Type 1} → statement M
 has-spec = tie.close (tie.spec (λ c κs. search needs) returns)

@@ -11,12 +11,12 @@ use mir.Syntax.{w8, w64}
 use mir.Val.{Fits, toZ}
 use Rattle.token.specs.declared.flags.CapabilityFlags.{CapabilityFlags}
 use Rattle.token.specs.declared.flags.CapabilityFlags.the-variants.{Read, Write, Execute, Grant}
-use Rattle.token.specs.Flags.{place}
+use Rattle.token.specs.Flags.{bitOf}
 use Rattle.token.proofs.flags.CapabilityFlags.number.Statement.{statement}
 use Rattle.token.proofs.flags.CapabilityFlags.number.Tie as tie
 
 abbrev numberOf : CapabilityFlags → ℕ
-numberOf perm = 2 ^ place perm
+numberOf perm = 2 ^ bitOf perm
 
 told : (c : tie.At-match-came) → c .match .result ≡ numberOf (c .before .args .self)
 told c =

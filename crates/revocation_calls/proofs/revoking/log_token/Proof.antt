@@ -18,10 +18,10 @@ use Rattle.steps.specs.Replies.{done, refuse}
 use Rattle.token.specs.Token.{idOf, generationOf}
 use Rattle.world.specs.Numbers.{loggedOf, epochWord}
 use Rattle.world.specs.declared.Numbers.{Numbers}
-use Rattle.revocation_calls.specs.Revoking.{listing}
+use Rattle.revocation_calls.specs.Revoking.{loggingToken}
 use Rattle.revocation_calls.proofs.Pairs.{token-pair}
-use Rattle.revocation_calls.proofs.revoking.list_token.Statement.{statement}
-use Rattle.revocation_calls.proofs.revoking.list_token.Tie as tie
+use Rattle.revocation_calls.proofs.revoking.log_token.Statement.{statement}
+use Rattle.revocation_calls.proofs.revoking.log_token.Tie as tie
 
 -- Of the one place of xs the first k.
 module _ (k : ℕ) (xs : List ℕ) (long : length xs ≡ 1) (few : k ≤ 1) where
@@ -36,14 +36,14 @@ module _ (k : ℕ) (xs : List ℕ) (long : length xs ≡ 1) (few : k ≤ 1) wher
     absent : absentOf (loggedOf mem) (logOf d mem) (pairOf (idOf token) (generationOf token) ∷ []) ≡ take k xs
     absent = ap (λ pair. absentOf (loggedOf mem) (logOf d mem) (pair ∷ [])) (sym (token-pair token)) ∙ sym kept
 
-    no-room : d .pairs < loggedOf mem + k → listing d token mem ≡ refuse mem LogFull
-    unfolding listing
+    no-room : d .pairs < loggedOf mem + k → loggingToken d token mem ≡ refuse mem LogFull
+    unfolding loggingToken
     no-room over = when-yes _ _ _ (rw (absent, count) (lt-ltb _ _ over))
 
     joins :
         loggedOf mem + k ≤ d .pairs
-        → listing d token mem ≡ record { reply = done 0; memory = addStep epochWord 1 (logStep d (take k xs) mem) }
-    unfolding listing
+        → loggingToken d token mem ≡ record { reply = done 0; memory = addStep epochWord 1 (logStep d (take k xs) mem) }
+    unfolding loggingToken
     joins room = rw absent (when-no _ _ _ (le-ltb _ _ (fits _ _ room)))
 
 keep-absent-requires : tie.Need-keep-absent-requires
@@ -88,8 +88,8 @@ returns-2 c =
     left-is (c .done .ensures) (counted .add .ensures ∙ ap (addStep epochWord 1) (joined .append-pairs .ensures))
     (joins _ _ (back .pairs2 .given) few _ _ _ kept (tested .if1 .left))
 
-pub list-token-spec : {M : Type 1} → statement M
-list-token-spec =
+pub log-token-spec : {M : Type 1} → statement M
+log-token-spec =
     tie.close
     (tie.spec (λ c. search needs) keep-absent-requires slice-read-if1 (λ c. search needs) (λ c κs. search needs) (λ c. search needs) returns
     (λ c. search needs) slice-aggregate-append-pairs append-pairs-requires add-requires (λ c κs. search needs) (λ c. search needs)

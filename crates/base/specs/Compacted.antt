@@ -19,14 +19,14 @@ use Rattle.base.specs.SumLaws.{sum-one-le}
 abbrev pub passing : (ℕ → Bool) → ℕ → ℕ
 passing p n = sum (λ i. one (p i)) n
 
-unfoldable pub listed : (ℕ → ℕ) → (ℕ → Bool) → ℕ → List ℕ → List ℕ
-listed f p zero xs = xs
-listed f p (suc n) xs = let r = listed f p n xs in set r (passing p n) (f n)
+unfoldable pub compacted : (ℕ → ℕ) → (ℕ → Bool) → ℕ → List ℕ → List ℕ
+compacted f p zero xs = xs
+compacted f p (suc n) xs = let r = compacted f p n xs in set r (passing p n) (f n)
 
-pub length-listed : (f : ℕ → ℕ) (p : ℕ → Bool) (n : ℕ) (xs : List ℕ) → length (listed f p n xs) ≡ length xs
-unfolding listed
-length-listed f p zero xs = refl
-length-listed f p (suc n) xs = length-set (listed f p n xs) (passing p n) (f n) ∙ length-listed f p n xs
+pub length-compacted : (f : ℕ → ℕ) (p : ℕ → Bool) (n : ℕ) (xs : List ℕ) → length (compacted f p n xs) ≡ length xs
+unfolding compacted
+length-compacted f p zero xs = refl
+length-compacted f p (suc n) xs = length-set (compacted f p n xs) (passing p n) (f n) ∙ length-compacted f p n xs
 
 -- The turns of a loop over the numbers below n, from a: g 0, then g 1, ..
 unfoldable pub fold : {A : Type 0} → (ℕ → A → A) → ℕ → A → A
@@ -46,34 +46,36 @@ all-fold q (suc n) = ap (λ b. both b (q n)) (all-fold q n)
 -- A loop over what is listed does what a loop over the numbers does that passes over those that fail.
 module _ {A : Type 0} (h : ℕ → A → A) (a : A) where
   -- With m values written, the next one is written behind them.
-  listed-more : (xs : List ℕ) (m v : ℕ) (here : Bool) (done : A) → m < length xs → fold (λ j. h (getD xs j 0)) m a ≡ done
+  compacted-more : (xs : List ℕ) (m v : ℕ) (here : Bool) (done : A) → m < length xs → fold (λ j. h (getD xs j 0)) m a ≡ done
       → fold (λ j. h (getD (set xs m v) j 0)) (m + one here) a ≡ pick here (h v done) done
   unfolding fold
-  listed-more xs m v here done room e = go here
+  compacted-more xs m v here done room e = go here
     where
       kept : fold (λ j. h (getD (set xs m v) j 0)) m a ≡ done
-      kept = fold-ext (λ j. h (getD (set xs m v) j 0)) (λ j. h (getD xs j 0)) m a (λ k l b. ap (λ w. h w b) (getD-set-other xs m k v 0 (λ e. omega arith))) ∙ e
+      kept = fold-ext (λ j. h (getD (set xs m v) j 0)) (λ j. h (getD xs j 0)) m a
+          (λ k l b. ap (λ w. h w b) (getD-set-other xs m k v 0 (λ e. omega arith))) ∙ e
 
       go : (here : Bool) → fold (λ j. h (getD (set xs m v) j 0)) (m + one here) a ≡ pick here (h v done) done
       go true = rw (add-one, getD-set-same xs m v 0 room, kept)
       go false = rw (add-zero, kept)
 
-  pub listed-fold : (f : ℕ → ℕ) (p : ℕ → Bool) (n : ℕ) (xs : List ℕ) → n ≤ length xs
-      → fold (λ j. h (getD (listed f p n xs) j 0)) (passing p n) a ≡ fold (λ i b. pick (p i) (h (f i) b) b) n a
-  unfolding fold listed sum
-  listed-fold f p zero xs room = refl
-  listed-fold f p (suc n) xs room =
-      listed-more (listed f p n xs) (passing p n) (f n) (p n) (fold (λ i b. pick (p i) (h (f i) b) b) n a)
-      (omega (arith, length-listed f p n xs, sum-one-le p n)) (listed-fold f p n xs (omega arith))
+  pub compacted-fold : (f : ℕ → ℕ) (p : ℕ → Bool) (n : ℕ) (xs : List ℕ) → n ≤ length xs
+      → fold (λ j. h (getD (compacted f p n xs) j 0)) (passing p n) a ≡ fold (λ i b. pick (p i) (h (f i) b) b) n a
+  unfolding fold compacted sum
+  compacted-fold f p zero xs room = refl
+  compacted-fold f p (suc n) xs room =
+      compacted-more (compacted f p n xs) (passing p n) (f n) (p n) (fold (λ i b. pick (p i) (h (f i) b) b) n a)
+      (omega (arith, length-compacted f p n xs, sum-one-le p n)) (compacted-fold f p n xs (omega arith))
 
 -- So all that are listed pass q where each number that passes p does.
-pub listed-all :
+pub compacted-all :
     (q : ℕ → Bool) (f : ℕ → ℕ) (p : ℕ → Bool) (n : ℕ) (xs : List ℕ) → n ≤ length xs
-    → all (passing p n) (λ j. q (getD (listed f p n xs) j 0)) ≡ all n (λ i. pick (p i) (q (f i)) true)
-listed-all q f p n xs room =
-    all-fold (λ j. q (getD (listed f p n xs) j 0)) (passing p n)
-    ∙ listed-fold (λ v b. both b (q v)) true f p n xs room
-    ∙ fold-ext (λ i b. pick (p i) (both b (q (f i))) b) (λ i b. both b (pick (p i) (q (f i)) true)) n true (λ i l b. asked (p i) (q (f i)) b)
+    → all (passing p n) (λ j. q (getD (compacted f p n xs) j 0)) ≡ all n (λ i. pick (p i) (q (f i)) true)
+compacted-all q f p n xs room =
+    all-fold (λ j. q (getD (compacted f p n xs) j 0)) (passing p n)
+    ∙ compacted-fold (λ v b. both b (q v)) true f p n xs room
+    ∙ fold-ext (λ i b. pick (p i) (both b (q (f i))) b) (λ i b. both b (pick (p i) (q (f i)) true)) n true
+    (λ i l b. asked (p i) (q (f i)) b)
     ∙ sym (all-fold (λ i. pick (p i) (q (f i)) true) n)
   where
     asked : (here there b : Bool) → pick here (both b there) b ≡ both b (pick here there true)
