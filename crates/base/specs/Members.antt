@@ -1,4 +1,4 @@
--- The words of a list: that one is in it, that none stands in it twice, and how both go by the first word or by two parts.
+-- The words of a list: that one is in it, and that none stands in it twice; both by the first word; that a word of a part is in the whole.
 use mathlib.Core.Path.{_≡_, sym, _∙_}
 use mathlib.Core.Logic.{_↔_, _⊎_, inl, inr, ⊎-elim, by-cases}
 use mathlib.Core.List.{List, [], _∷_, _++_}

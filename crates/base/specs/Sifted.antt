@@ -63,7 +63,7 @@ sifted-ext p q same (x ∷ xs) = ap₂ (λ b later. pick b (x ∷ later) later) 
 
 -- ---- the turns of a loop that goes through the first `count` words and writes those that pass to the front
 
--- The words before j are gone through, and so many of them kept; xs₀ is the list as it was lent.
+-- The words before j are gone through, and `kept` of them kept; xs₀ is the list as it was lent.
 pub record Sifting (p : ℕ → Bool) (xs₀ : List ℕ) (count : ℕ) (xs : List ℕ) (kept j : ℕ) : Type 0 where
   pub fits : count ≤ length xs₀
   pub inside : j ≤ count

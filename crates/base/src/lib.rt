@@ -1,4 +1,5 @@
-// Ground that every crate above shares: arithmetic on words, words that differ and where one stands, words moved by a place.
+// Arithmetic on words, words that differ and where one stands, words moved by a place: for `table`, `registry` and `revocation`. The
+// definitions in specs/ are shared by all crates.
 pub mod arith;
 pub mod distinct;
 pub mod shift;

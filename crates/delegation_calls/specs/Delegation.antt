@@ -3,7 +3,7 @@
 -- returned or the call refused.
 use mathlib.Core.Bool.{Bool, true, false, not}
 use mathlib.Core.List.{List}
-use Prim.Native.Nat.{ℕ, zero, suc, _+_, _^_}
+use Prim.Native.Nat.{ℕ, zero, suc, _+_}
 use lib.Dec.{eqb, ltb}
 use Rattle.answers.specs.declared.Answer.the-variants.{InvalidCapability, CapabilityRevoked, PermissionDenied, IdExhausted, QuotaExceeded, BadSpace, RegistryFull}
 use Rattle.base.specs.Choose.{pick, both, when}
@@ -70,7 +70,7 @@ derivedWith d target token rights id p mem =
     admitted d target id (tokenOf id (typeOf token) rights) object rights delegatedWord
     (registerStep d id object (suc p) (listStep d p mem))
 
--- The id was taken: parent unregistered gives 1, revoked or other generation gives 3; then 22.
+-- 9 where no id was left. Else one was taken: parent unregistered gives 1, revoked or other generation gives 3; then 22.
 abbrev pub derived : Numbers → ℕ → ℕ → ℕ → List ℕ → Taken → Left Reply
 derived d target token rights mem Exhausted = refuse mem IdExhausted
 derived d target token rights mem (Id id) =
@@ -96,7 +96,7 @@ abbrev pub offering : Numbers → ℕ → ℕ → ℕ → Offered → Left Reply
 offering d target token rights o =
     pick (o .held) (record { reply = done (o .token); memory = o .memory }) (withRoom d target token rights (o .memory))
 
--- GRANT (6); derived rights are both sets' common bits.
+-- 1 for a token that the source space has not, 6 without GRANT; derived rights are both sets' common bits.
 abbrev pub granting : Numbers → ℕ → ℕ → ℕ → List ℕ → Got → Left Reply
 granting d target token rights mem Nothing = refuse mem InvalidCapability
 granting d target token rights mem (Entry e) =

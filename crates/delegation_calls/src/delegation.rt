@@ -1,4 +1,5 @@
-// Delegate: the target space gets a child of the capability, with the rights that both sides have, or the child that it holds already.
+// Delegate: the target space gets a child of the capability, with the rights that both the held entry and the request have, or the child
+// that it holds already.
 ghost use mathlib.Core.Path.{_≡_};
 ghost use Prim.Native.Nat.{_<_};
 ghost use Rattle.space.specs.Lookup.{lookedUp};

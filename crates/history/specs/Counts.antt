@@ -1,6 +1,6 @@
 -- How many entries a space accepted and its rebuilds moved, as the calls answer it. An insert, a create or a new delegation that is given 0
 -- accepts one entry, and its count is what it moved; a copy's value is what it accepted and its count what it moved. A delegation that
--- returned a child that the target has already accepted none: the statistic of delegations, which counts the new ones and which `stats`
+-- returned a child which the target already held accepted none: the statistic of delegations, which counts the new ones and which `stats`
 -- answers, is as it was.
 use mathlib.Core.List.{List, [], _∷_}
 use mathlib.Core.Bool.{not}

@@ -123,15 +123,17 @@ pub record MakesChild (d : Numbers) (target token rights : ℕ) (mem : List ℕ)
   pub taken : takenId d roomy ≡ Id id
   pub walk : Derives d target token rights id (placeIn d (takeStep d roomy) (tokenId token)) (takeStep d roomy) w
 
--- All that follow the lookup in the source, which found the token and is counted in mem; rights are the derived ones.
+-- The walks of a delegation after its lookup in the source; that lookup found the token and is counted in mem; rights are the derived
+-- ones.
 pub data Delegates (d : Numbers) (target token rights : ℕ) (mem : List ℕ) : Walk → Type 0 where
-  offering :
+  offering-child :
       (w : Walk) → Offers d target (placeIn d mem (tokenId token)) (typeOf token) rights 0 (registeredOf mem) mem w
       → Delegates d target token rights mem w
   making :
       (w : Walk) → MakesChild d target token rights (offered d target token rights mem .memory) w → Delegates d target token rights mem w
 
--- ---- every walk of a call: those of the look, then its own. Where a call is refused before one of them, it is listed all the same
+-- ---- every walk of a call: those of the look, then its own. Some that a refused call does not come to are among them, as those of an
+-- insert at its quota; none that a call makes is left out
 
 -- The look with which every call but an opening begins.
 pub data Looks (d : Numbers) (mem : List ℕ) : Walk → Type 0 where

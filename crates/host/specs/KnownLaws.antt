@@ -1,4 +1,5 @@
--- What a call told of a value is told of what the value is known to be: of one value, and of two numbers by way of a result's word.
+-- What holds of f of a value holds of f of an equal one: of one value (`of-known`), and of two numbers where the result comes by way of a
+-- word (`of-both`).
 use mathlib.Core.Path.{_≡_, ap, _∙_}
 use Prim.Native.Nat.{ℕ}
 

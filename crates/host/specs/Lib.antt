@@ -1,4 +1,4 @@
--- What the contracts of `host` cite beside those of the crates that it exports.
+-- What the contracts of `host` cite beside those of the crates that it exports, and the laws by which they are proved.
 pub mod Answered
 pub mod Spaces
 pub mod Replies

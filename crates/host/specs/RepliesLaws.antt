@@ -1,5 +1,5 @@
--- What a host is told of a call: its reply is the definition's, so what is seen of the one is what the host sees of the other. One law for
--- each thing that a call leaves beside its answer, the memory and a lent area; a search takes both for both. Alone it is `of-known`.
+-- A host sees of a call's reply what it sees of the definition's. One law for a call that leaves the memory, one for a call that leaves a
+-- lent area; a proof search uses both for a call that leaves both, and `of-known` for a reply alone.
 use mathlib.Core.List.{List}
 use mathlib.Core.Path.{_≡_, ap}
 use Prim.Native.Nat.{ℕ}

@@ -1,5 +1,5 @@
--- Document 01, "Registry and delegation": what create and delegate end with, the insert of what was registered, which a refusal undoes.
--- d are the numbers of a sound memory. The value is the token, the count the entries that the insert moved.
+-- Document 01, "Registry and delegation": what create and delegate end with, the insert of the id just registered. Where the space refuses
+-- it, the registering is undone. d are the numbers of a sound memory. The value is the token, the count the entries that the insert moved.
 use mathlib.Core.List.{List}
 use Prim.Native.Nat.{ℕ, _-_}
 use lib.Dec.{eqb}

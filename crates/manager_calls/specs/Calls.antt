@@ -23,7 +23,7 @@ use Rattle.table.specs.declared.Got.{Got}
 use Rattle.table.specs.declared.Got.the-variants.{Entry, Nothing}
 use Rattle.token.specs.Rights.{holds}
 use Rattle.token.specs.Token.{idOf}
-use Rattle.world.specs.Numbers.{registeredOf, recycledOf, createdWord, deletedWord}
+use Rattle.world.specs.Numbers.{createdWord, delegatedWord, revokedWord, deletedWord, registeredOf, recycledOf}
 use Rattle.world.specs.Regions.{registry, view}
 use Rattle.world.specs.declared.Numbers.{Numbers}
 use Rattle.manager_calls.specs.Admit.{admitted}
@@ -94,7 +94,13 @@ noStats answer = record { answer = answer; created = 0; delegated = 0; revoked =
 unfoldable pub statsOut : List ℕ → StatsReply
 statsOut mem =
     onWorld noStats mem (λ d.
-    record { answer = Done; created = getD mem 7 0; delegated = getD mem 8 0; revoked = getD mem 9 0; deleted = getD mem 10 0 })
+    record {
+      answer = Done;
+      created = getD mem createdWord 0;
+      delegated = getD mem delegatedWord 0;
+      revoked = getD mem revokedWord 0;
+      deleted = getD mem deletedWord 0;
+    })
 
 -- The children of an id in list order, to the area; the value is how many. 21 for an id over 2^48-1 or an area too short.
 unfoldable pub childrenOut : List ℕ → ℕ → List ℕ → WithArea

@@ -1,5 +1,5 @@
 -- The calls for notifications: what each answers and leaves, on every memory and every argument. Document 01's order of refusals: 26, 21,
--- then the source's.
+-- 25.
 use mathlib.Core.Bool.{not}
 use mathlib.Core.List.{List, []}
 use Prim.Native.Nat.{ℕ, _^_}
@@ -40,17 +40,18 @@ noticesFor d mem q = pick (ltb q (d .queues)) (notices (view d (queue q) mem)) [
 abbrev pub countFor : Numbers → List ℕ → ℕ → ℕ
 countFor d mem q = pick (ltb q (d .queues)) (lengths d mem q) 0
 
--- They go to the area; the value is how many notices. 21 for an area too short.
+-- They go to the area; the value is how many notices.
 abbrev pub peeked : Numbers → List ℕ → ℕ → List ℕ → WithArea
 peeked d mem q area = record { reply = done (countFor d mem q); area = written (noticesFor d mem q) area }
 
+-- 21 for an area too short.
 unfoldable pub peekOut : List ℕ → ℕ → List ℕ → WithArea
 peekOut mem pid area =
     onWorld (λ a. record { reply = refusal a; area = area }) mem (λ d.
     let q = queueFor d mem pid in
     when (ltb (length area) (length (noticesFor d mem q))) (record { reply = refusal BadField; area = area }) (peeked d mem q area))
 
--- The queue is then no more.
+-- The memory without the queue at place q, if there is one.
 abbrev pub without : Numbers → List ℕ → ℕ → List ℕ
 without d mem q = pick (ltb q (d .queues)) (freeStep d q mem) mem
 
@@ -71,10 +72,11 @@ cleanupOut mem pid =
 
 -- ---- the notices of all
 
--- How many queues there are, and how many notices in all.
+-- A refusal has zeros.
 abbrev pub noQueues : Answer → QueuesReply
 noQueues answer = record { answer = answer; processes = 0; notifications = 0 }
 
+-- How many queues there are, and how many notices in all.
 unfoldable pub notificationStatsOut : List ℕ → QueuesReply
 notificationStatsOut mem =
     onWorld noQueues mem (λ d.

@@ -1,5 +1,5 @@
--- Laws of the collection of the children of place p that nothing needs: exactly they leave the registry, the places up to p stay as
--- they are, and the rules of a registry hold on.
+-- Laws of the collection of the children of place p with no children and no holders: exactly they leave the registry, the places up to p
+-- stay as they are, and the rules of a registry hold on.
 use mathlib.Core.Path.{_≡_, refl, sym, ap, _∙_}
 use mathlib.Core.Logic.{_≢_, _↔_, Iff·trans, ⊎-elim, by-cases}
 use mathlib.Core.Bool.{Bool, true, false, not, true≢false}

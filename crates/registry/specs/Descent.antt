@@ -1,5 +1,5 @@
 -- Document 01, "Revocation": an id and all its descendants, breadth first, each once; and that they are revoked. n ids are registered, in
--- a registry of so many places.
+-- a registry of `places` places.
 use mathlib.Core.List.{List, [], _∷_, _++_}
 use Prim.Native.Nat.{ℕ, zero, suc, _+_, _*_}
 use lib.Dec.{eqb, ltb}

@@ -1,6 +1,6 @@
--- Document 01, "Registry and delegation": registering an id, unregistering it, and the collection of children that nothing needs. n ids are
--- registered, in the order of their registration, in a registry of `places` places; a child's link names its parent's place, so a child is
--- recorded when it is registered and leaves its parent's list when it is unregistered.
+-- Document 01, "Registry and delegation": registering an id, unregistering it, and the collection of children with no children and no
+-- holders. n ids are registered, in the order of their registration, in a registry of `places` places; a child's link names its parent's
+-- place, so a child is recorded when it is registered and leaves its parent's list when it is unregistered.
 use mathlib.Core.Bool.{Bool, not}
 use mathlib.Core.List.{List}
 use Prim.Native.Nat.{ℕ, zero, suc, _+_, _-_, _*_}
@@ -43,7 +43,7 @@ unregistered places n k rg =
     (shiftedDown (places + k) (places + n)
     (shiftedDown k n rg))))
 
--- ---- the collection of the children of place p that nothing needs
+-- ---- the collection of the children of place p with no children and no holders
 
 abbrev pub hasChild : ℕ → ℕ → List ℕ → ℕ → Bool
 hasChild places n rg k = ltb (first (childOf (linkAt places rg) k) n) n

@@ -87,7 +87,7 @@ withinTest n state count = all n (λ k. leb (holders (state k)) (count k))
 abbrev pub heldTest : ℕ → (ℕ → ℕ) → (ℕ → ℕ) → (ℕ → ℕ) → Bool
 heldTest n id state spaces = withinTest n state (λ k. spaces (id k))
 
--- All rules but the last, which speaks of the spaces too: of a registry of so many places, with n and m ids.
+-- All rules but the last, which speaks of the spaces too: of a registry of `places` places, with n and m ids.
 unfoldable pub registryTest : ℕ → ℕ → ℕ → ℕ → List ℕ → Bool
 registryTest places n m next rg =
     both (differTest n (idAt rg))

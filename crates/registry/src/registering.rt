@@ -1,4 +1,4 @@
-// Registering an id, unregistering it, and the collection of children that nothing needs. manager.rs's `registry.insert` and
+// Registering an id, unregistering it, and the collection of children with no children and no holders. manager.rs's `registry.insert` and
 // `registry.remove`, and `collect_unheld_delegations`; revocation.rs's `record_derivation`, `cleanup_capability` and `prune_children`.
 ghost use mathlib.Core.Path.{_≡_};
 ghost use Prim.Native.Nat.{_+_, _*_, _<_, _≤_};

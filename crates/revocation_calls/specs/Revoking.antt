@@ -23,7 +23,7 @@ use Rattle.world.specs.Numbers.{registeredOf, loggedOf, epochWord}
 use Rattle.world.specs.Sound.{states}
 use Rattle.world.specs.declared.Numbers.{Numbers}
 
--- A cascade that is listed: its places, their ids, and of their pairs those that the log has not. 24 where more new pairs are needed
+-- A cascade, given its places, their ids, and of their pairs those that the log has not. 24 where more new pairs are needed
 -- than places free, then 25 where more new queues are, both before the registry, the log or the queues change.
 abbrev pub carryingOut : Numbers → List ℕ → List ℕ → List ℕ → ℕ → List ℕ → List ℕ → Left Reply
 carryingOut d places ids pairs time listed mem =

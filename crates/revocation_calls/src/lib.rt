@@ -1,5 +1,5 @@
-// The calls of revocation: manager.rs's `revoke` and every public function of revocation.rs that is not left out, among the manager's
-// calls or for notifications (`notification_calls`), on the world's memory. No call asks anything of its arguments or of the memory: each
+// The calls of revocation: manager.rs's `revoke` and every public function of revocation.rs but those left out, the manager's and
+// those for notifications (`notification_calls`), on the world's memory. No call asks anything of its arguments or of the memory: each
 // looks first, and refuses by document 01's table. What each answers and leaves is defined in specs/.
 mod cascade;
 mod read;

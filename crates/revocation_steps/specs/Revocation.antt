@@ -14,7 +14,7 @@ use Rattle.revocation.specs.Queue.{pushed, begun, freed}
 use Rattle.revocation.specs.Reason.{numberOf}
 use Rattle.revocation.specs.declared.RevocationReason.the-variants.{ParentRevoked}
 use Rattle.steps.specs.Steps.{addStep}
-use Rattle.world.specs.Numbers.{registeredOf, loggedOf, epochWord, revokedWord}
+use Rattle.world.specs.Numbers.{epochWord, revokedWord, loggedWord, registeredOf, loggedOf}
 use Rattle.world.specs.Regions.{registry, log, queue, view, onRegion}
 use Rattle.world.specs.Sound.{pids, lengths}
 use Rattle.world.specs.declared.Numbers.{Numbers}
@@ -28,7 +28,7 @@ logOf d mem = view d log mem
 unfoldable pub logStep : Numbers → List ℕ → List ℕ → List ℕ
 logStep d pairs mem =
     let n = loggedOf mem in
-    set (onRegion d log (appended n pairs) mem) 13 (n + length pairs)
+    set (onRegion d log (appended n pairs) mem) loggedWord (n + length pairs)
 
 -- ---- the queues
 
@@ -101,10 +101,11 @@ carriedOut d ks ids pairs time listed mem =
     (addStep revokedWord (length ks)
     (onRegion d registry (marked (d .places) ks) mem))))
 
+-- For the laws: the memory that the cascade of place r leaves where it is refused nothing, and the new queues that it needs.
 unfoldable pub revokeStep : Numbers → ℕ → ℕ → List ℕ → List ℕ → List ℕ
 revokeStep d r time listed mem = carriedOut d (cascade d mem r) (cascadeIds d mem r) (cascadePairs d mem r) time listed mem
 
--- How many new queues a cascade over so many places needs: none where it revokes no descendant.
+-- How many new queues a cascade over `count` places needs: none where it revokes no descendant.
 abbrev pub queuesNeeded : Numbers → List ℕ → List ℕ → ℕ → ℕ
 queuesNeeded d mem listed count = pick (ltb 1 count) (newQueues d mem listed) 0
 

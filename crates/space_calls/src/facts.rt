@@ -12,6 +12,7 @@ use steps::Reply;
 use steps::enter::enter_space;
 use steps::spaces::facts;
 
+// All that a space says, or a refusal.
 fn all_facts(mem: &[u64], s: usize) -> FactsReply
     ensures { λ r. ⌜ r ≡ factsOut (now (mem .entry)) s ⌝ }
 {
@@ -24,6 +25,7 @@ fn all_facts(mem: &[u64], s: usize) -> FactsReply
     }
 }
 
+// One number of it; a refusal's facts are zeros.
 fn fact(answer: Answer, value: u64) -> Reply
     ensures { λ r. ⌜ r ≡ replied answer value 0 ⌝ }
 {

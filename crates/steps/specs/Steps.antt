@@ -20,7 +20,8 @@ use Rattle.table.specs.Slots.{idOf}
 use Rattle.table.specs.declared.CapabilityEntry.{CapabilityEntry}
 use Rattle.table.specs.declared.Got.{Got}
 use Rattle.table.specs.declared.Got.the-variants.{Entry, Nothing}
-use Rattle.world.specs.Numbers.{nextOf, registeredOf, recycledOf}
+use Rattle.token.specs.Token.{idOf as tokenId}
+use Rattle.world.specs.Numbers.{nextWord, registeredWord, recycledWord, nextOf, registeredOf, recycledOf}
 use Rattle.world.specs.Regions.{space, registry, view, onRegion}
 use Rattle.world.specs.Sound.{links, recycled}
 use Rattle.world.specs.declared.Numbers.{Numbers}
@@ -86,7 +87,7 @@ isEntry Nothing = false
 unfoldable pub removeStep : Numbers → ℕ → ℕ → List ℕ → List ℕ
 removeStep d s token mem =
     let after = onRegion d (space s) (λ sp. removedToken sp token) mem in
-    pick (isEntry (lookedUp (spaceOf d s mem) token .got)) (releaseStep d (registeredOf mem) (token % 2 ^ 48) after) after
+    pick (isEntry (lookedUp (spaceOf d s mem) token .got)) (releaseStep d (registeredOf mem) (tokenId token) after) after
 
 unfoldable pub clearStep : Numbers → ℕ → List ℕ → List ℕ
 clearStep d s mem = releaseAllStep d (registeredOf mem) (entryIds (spaceOf d s mem)) (onRegion d (space s) cleared mem)
@@ -112,8 +113,8 @@ takenId d mem =
 unfoldable pub takeStep : Numbers → List ℕ → List ℕ
 takeStep d mem =
     pick (ltb 0 (recycledOf mem))
-    (set (onRegion d registry (firstTaken (d .places) (recycledOf mem)) mem) 12 (recycledOf mem - 1))
-    (pick (ltb (nextOf mem) (2 ^ 48)) (set mem 5 (nextOf mem + 1)) mem)
+    (set (onRegion d registry (firstTaken (d .places) (recycledOf mem)) mem) recycledWord (recycledOf mem - 1))
+    (pick (ltb (nextOf mem) (2 ^ 48)) (set mem nextWord (nextOf mem + 1)) mem)
 
 -- ---- the registry: n ids are registered, m recycled
 
@@ -128,7 +129,7 @@ objects d mem = objectAt (d .places) (view d registry mem)
 unfoldable pub registerStep : Numbers → ℕ → ℕ → ℕ → List ℕ → List ℕ
 registerStep d id object link mem =
     let n = registeredOf mem in
-    set (onRegion d registry (registered (d .places) n id object link) mem) 11 (n + 1)
+    set (onRegion d registry (registered (d .places) n id object link) mem) registeredWord (n + 1)
 
 -- Place p has a list of children from now on.
 unfoldable pub listStep : Numbers → ℕ → List ℕ → List ℕ
@@ -138,21 +139,22 @@ listStep d p mem = onRegion d registry (listGiven (d .places) p) mem
 unfoldable pub unregisterStep : Numbers → ℕ → List ℕ → List ℕ
 unregisterStep d k mem =
     let n = registeredOf mem in
-    set (onRegion d registry (unregistered (d .places) n k) mem) 11 (n - 1)
+    set (onRegion d registry (unregistered (d .places) n k) mem) registeredWord (n - 1)
 
 -- An id joins the recycled ones.
 unfoldable pub recycleStep : Numbers → ℕ → List ℕ → List ℕ
 recycleStep d id mem =
     let m = recycledOf mem in
-    set (onRegion d registry (recycledWith (d .places) m id) mem) 12 (m + 1)
+    set (onRegion d registry (recycledWith (d .places) m id) mem) recycledWord (m + 1)
 
 -- The children of place p with no children and no holders leave list and registry.
 unfoldable pub collectStep : Numbers → ℕ → List ℕ → List ℕ
 collectStep d p mem =
     let n = registeredOf mem in
-    set (onRegion d registry (λ rg. collected (d .places) p n rg .words) mem) 11 (collected (d .places) p n (view d registry mem) .left)
+    set (onRegion d registry (λ rg. collected (d .places) p n rg .words) mem) registeredWord
+    (collected (d .places) p n (view d registry mem) .left)
 
--- The id x is a child of the id y.
+-- Of a registered id x: its parent is the id y.
 abbrev pub ChildOf : Numbers → List ℕ → ℕ → ℕ → Type 0
 ChildOf d mem x y = links d mem (placeIn d mem x) ≡ suc (placeIn d mem y)
 

@@ -124,7 +124,7 @@ pub fn get(words: &[u64], slots: usize, id: u64) -> Got
     }
 }
 
-// The first slot that is not live on the walk of the id; where all are live, which no caller lets be, its home.
+// The first slot that is not live on the walk of the id; where all are live, which no caller allows, its home.
 pub fn free_for(words: &[u64], slots: usize, id: u64) -> usize
     requires { ⌜ (0 < slots) × (slots ≤ 512) × (4 * slots ≤ length (now words)) ⌝ }
     ensures { λ r. ⌜ (r ≡ freeFor (now (words .entry)) slots id) × (r < slots) ⌝ }

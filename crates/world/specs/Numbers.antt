@@ -16,10 +16,10 @@ abbrev pub numbersOf : List ℕ → Numbers
 numbersOf mem =
     record { spaces = getD mem 0 0; most = getD mem 1 0; places = getD mem 2 0; pairs = getD mem 3 0; queues = getD mem 4 0 }
 
-abbrev pub nextOf : List ℕ → ℕ
-nextOf mem = getD mem 5 0
+-- The words of the head behind them: next, the epoch, the four statistics, and how many are registered, recycled and logged.
+abbrev pub nextWord : ℕ
+nextWord = 5
 
--- The words of the epoch and of the statistics.
 abbrev pub epochWord : ℕ
 epochWord = 6
 
@@ -35,17 +35,29 @@ revokedWord = 9
 abbrev pub deletedWord : ℕ
 deletedWord = 10
 
+abbrev pub registeredWord : ℕ
+registeredWord = 11
+
+abbrev pub recycledWord : ℕ
+recycledWord = 12
+
+abbrev pub loggedWord : ℕ
+loggedWord = 13
+
+abbrev pub nextOf : List ℕ → ℕ
+nextOf mem = getD mem nextWord 0
+
 abbrev pub epochOf : List ℕ → ℕ
 epochOf mem = getD mem epochWord 0
 
 abbrev pub registeredOf : List ℕ → ℕ
-registeredOf mem = getD mem 11 0
+registeredOf mem = getD mem registeredWord 0
 
 abbrev pub recycledOf : List ℕ → ℕ
-recycledOf mem = getD mem 12 0
+recycledOf mem = getD mem recycledWord 0
 
 abbrev pub loggedOf : List ℕ → ℕ
-loggedOf mem = getD mem 13 0
+loggedOf mem = getD mem loggedWord 0
 
 -- S 1..64, M 1..256, R 1..4,095, V 1..8,192, P 1..32.
 pub record InRange (d : Numbers) : Type 0 where

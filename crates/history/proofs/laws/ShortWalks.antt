@@ -37,7 +37,7 @@ use Rattle.world.specs.Numbers.{registeredOf}
 use Rattle.world.specs.Sound.{states, SoundAt}
 use Rattle.world.specs.declared.Numbers.{Numbers}
 use Rattle.history.specs.Call.{Call}
-use Rattle.history.specs.Walks.{Walk, Inserts, moving, entering, Copies, this-entry, later-entry, seeking, InsertsInto, testing, storing, Offers, this-child, after-a-miss, past-others, WithRoom, few-children, collected, MakesChild, Delegates, offering, making, looking, Looks, looking-over, WalksOf}
+use Rattle.history.specs.Walks.{Walk, Inserts, moving, entering, Copies, this-entry, later-entry, seeking, InsertsInto, testing, storing, Offers, this-child, after-a-miss, past-others, WithRoom, few-children, collected, MakesChild, Delegates, offering-child, making, looking, Looks, looking-over, WalksOf}
 use Rattle.history.specs.Walks.{before-reading, before-accepting, before-changing, in-get-entry, in-lookup, in-lookup-entry, in-check-rights, in-remove, in-space-revoke, in-check, in-revoke-held, in-insert, in-copy, in-space-create, in-create, in-delegate-source, in-delegate}
 
 abbrev Short : Walk → Type 0
@@ -158,7 +158,7 @@ module _ (d : Numbers) (mem : List ℕ) (sound : SoundAt d mem) (token : ℕ) wh
 delegates-short :
     (d : Numbers) (mem : List ℕ) (target token rights : ℕ) (w : Walk) → SoundAt d mem → target < d .spaces
     → Delegates d target token rights mem w → Short w
-delegates-short d mem target token rights _ sound to (offering w walks) = offers-short d target _ _ _ 0 _ mem w to sound walks
+delegates-short d mem target token rights _ sound to (offering-child w walks) = offers-short d target _ _ _ 0 _ mem w to sound walks
 delegates-short d mem target token rights _ sound to (making w child) =
     let offers = offered-kept d target (placeIn d mem (tokenId token)) (typeOf token) rights 0 (registeredOf mem) mem to sound in
     makes-short d _ (offers .sound) token target rights w to child

@@ -63,13 +63,13 @@ module _ (places n : ℕ) (rg firsts₀ nexts₀ firsts nexts : List ℕ) (at : 
       child =
           let here : at ≡ suc (at - 1) = omega arith in
           let named : link ≡ suc (link - 1) = omega arith in
-          let hasList = lists-child places n rg firsts nexts (at - 1) this so-far (listing .linked) (link - 1) named in
+          let more = lists-child places n rg firsts nexts (at - 1) this so-far (listing .linked) (link - 1) named in
           record {
             inside = omega (arith, this);
             linked = listing .linked;
             same-firsts = length-set firsts (link - 1) at ∙ listing .same-firsts;
             same-nexts = length-set nexts (at - 1) (getD firsts (link - 1) 0) ∙ listing .same-nexts;
-            lists = rw (← here) at hasList;
+            lists = rw (← here) at more;
           }
 
 abbrev Inv-loop : tie.InvT-loop
