@@ -1,13 +1,13 @@
 -- Tests and what they say: each is true exactly when its fact holds. `simp tests` turns "the test is true" into the rule that it tests.
 use mathlib.Core.Path.{_≡_, refl, sym}
 use mathlib.Core.Logic.{_↔_}
-use mathlib.Core.Bool.{Bool, true, false, not}
+use mathlib.Core.Bool.{Bool, true, false, not, true≢false}
 use Prim.Native.Nat.{ℕ, zero, suc, _<_, _≤_}
 use native.Mathlib.Omega.{arith}
 use borrow.Author.Tests.{leb-true, le-leb, eqb-true, eq-eqb, eqb-false, ne-eqb, not-true}
 use lib.Dec.{eqb, leb}
 use Rattle.base.specs.Choose.{pick, both, both-left, both-right, both-make}
-use Rattle.base.specs.Below.{all}
+use Rattle.base.specs.Below.{all, one}
 use Rattle.base.specs.AllLaws.{all-at, all-make}
 
 -- `ltb a b` is `leb (suc a) b`, so this one says both.
@@ -43,3 +43,11 @@ pub same-test : (a b : Bool) → (a ≡ true) ↔ (b ≡ true) → a ≡ b
 same-test true b h = sym (h .0 refl)
 same-test false true h = h .1 refl
 same-test false false h = refl
+
+pub eqb-swap : (a b : ℕ) → eqb a b ≡ eqb b a
+eqb-swap a b = same-test (eqb a b) (eqb b a) (λ h. eq-eqb b a (sym (eqb-true a b h)), λ h. eq-eqb a b (sym (eqb-true b a h)))
+
+-- A test counted as a number.
+pub one-exactly : (b : Bool) → (one b ≡ 1) ↔ (b ≡ true)
+one-exactly true = (λ e. refl, λ e. refl)
+one-exactly false = (λ e. absurd (omega (arith, e)), λ e. absurd (true≢false (sym e)))

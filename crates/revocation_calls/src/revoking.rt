@@ -3,7 +3,7 @@
 ghost use mathlib.Core.Path.{_≡_};
 ghost use Prim.Native.Nat.{_≤_};
 ghost use lib.ListN.{length};
-ghost use Rattle.steps.specs.Replies.{done, replied};
+ghost use Rattle.steps.specs.Replies.{done};
 ghost use Rattle.world.specs.Sound.{SoundAt};
 ghost use Rattle.revocation_calls.specs.Calls.{revokeOut, revokeCapabilityOut, revokeHeldOut, revokeBatchOut};
 ghost use Rattle.revocation_calls.specs.Revoking.{loggingToken, revokingToken, revokingHeld, revokingEach};
@@ -20,6 +20,7 @@ use steps::registered::add;
 use steps::registered::place_of;
 use steps::replies::done;
 use steps::replies::refusal;
+use steps::replies::replied;
 use steps::spaces;
 use table::Got;
 use token::CapabilityToken;
@@ -62,17 +63,6 @@ fn revoke_token(
     log_token(mem, d, token)
 }
 
-// An answer without a value, with the visits of the call's lookup.
-fn visited(answer: Answer, visits: usize) -> Reply
-    ensures { λ r. ⌜ r ≡ replied answer 0 visits ⌝ }
-{
-    Reply {
-        answer,
-        value: 0,
-        count: visits,
-    }
-}
-
 // The entry that was looked for must be there and have REVOKE.
 fn revoke_looked_up(
     mem: &mut [u64],
@@ -90,15 +80,15 @@ fn revoke_looked_up(
 {
     let got = l.got;
     match got {
-        Got::Nothing => visited(Answer::NotFound, l.visits),
+        Got::Nothing => replied(Answer::NotFound, 0, l.visits),
         Got::Entry(entry) => {
             let held = entry.rights;
             if !held.contains(Rights::REVOKE) {
-                return visited(Answer::InsufficientRights, l.visits);
+                return replied(Answer::InsufficientRights, 0, l.visits);
             }
             let reply = revoke_token(mem, d, token, time, listed);
             let answer = reply.answer;
-            visited(answer, l.visits)
+            replied(answer, 0, l.visits)
         }
     }
 }

@@ -1,7 +1,6 @@
 // What a space says of itself: its quota, its generation, its slots and entries, its counted lookups. `all_facts` asks for everything at
 // once; each call answers its own part of it.
 ghost use mathlib.Core.Path.{_≡_};
-ghost use Rattle.steps.specs.Replies.{replied};
 ghost use Rattle.space_calls.specs.Calls.{factsOut, usedOut, quotaOut, capacityOut, generationOut, statsOut};
 use super::FactsReply;
 use super::StatsReply;
@@ -10,9 +9,10 @@ use answers::Answer;
 use steps::Entered;
 use steps::Reply;
 use steps::enter::enter_space;
+use steps::replies::replied;
 use steps::spaces::facts;
 
-// All that a space says, or a refusal.
+// All that a space says, or a refusal with zeros.
 fn all_facts(mem: &[u64], s: usize) -> FactsReply
     ensures { λ r. ⌜ r ≡ factsOut (now (mem .entry)) s ⌝ }
 {
@@ -25,23 +25,12 @@ fn all_facts(mem: &[u64], s: usize) -> FactsReply
     }
 }
 
-// One number of it; a refusal's facts are zeros.
-fn fact(answer: Answer, value: u64) -> Reply
-    ensures { λ r. ⌜ r ≡ replied answer value 0 ⌝ }
-{
-    Reply {
-        answer,
-        value,
-        count: 0,
-    }
-}
-
 pub fn used(mem: &[u64], s: usize) -> Reply
     ensures { λ r. ⌜ r ≡ usedOut (now (mem .entry)) s ⌝ }
 {
     let all = all_facts(mem, s);
     let answer = all.answer;
-    fact(answer, all.facts.used as u64)
+    replied(answer, all.facts.used as u64, 0)
 }
 
 pub fn quota(mem: &[u64], s: usize) -> Reply
@@ -49,7 +38,7 @@ pub fn quota(mem: &[u64], s: usize) -> Reply
 {
     let all = all_facts(mem, s);
     let answer = all.answer;
-    fact(answer, all.facts.quota as u64)
+    replied(answer, all.facts.quota as u64, 0)
 }
 
 // Slots allocated by the table.
@@ -58,7 +47,7 @@ pub fn table_capacity(mem: &[u64], s: usize) -> Reply
 {
     let all = all_facts(mem, s);
     let answer = all.answer;
-    fact(answer, all.facts.slots as u64)
+    replied(answer, all.facts.slots as u64, 0)
 }
 
 pub fn generation(mem: &[u64], s: usize) -> Reply
@@ -66,7 +55,7 @@ pub fn generation(mem: &[u64], s: usize) -> Reply
 {
     let all = all_facts(mem, s);
     let answer = all.answer;
-    fact(answer, all.facts.generation as u64)
+    replied(answer, all.facts.generation as u64, 0)
 }
 
 // Lookups that found the capability, those that did not, and the entries that there are.

@@ -1,22 +1,25 @@
 -- Entries come and go, and their holders are counted: the ways through `insert`, `remove`, `clear` and `copy`.
 use mathlib.Core.Bool.{true, false}
 use mathlib.Core.List.{List}
-use mathlib.Core.Path.{_≡_}
+use mathlib.Core.Logic.{_≢_}
+use mathlib.Core.Path.{_≡_, refl, sym, ap, _∙_}
 use Prim.Native.Nat.{ℕ, _%_, _^_}
 use borrow.Author.Tests.{eq-eqb, ne-eqb}
 use lib.Dec.{eqb}
 use lib.ListN.{length}
 use Rattle.answers.specs.Number.{numberOf}
 use Rattle.answers.specs.declared.Answer.{Answer}
+use Rattle.base.specs.Part.{onPart-same}
 use Rattle.space.specs.Change.{insertOut, removedToken, cleared}
 use Rattle.space.specs.Copy.{copiedSpace}
 use Rattle.space.specs.Ids.{entryIds}
 use Rattle.space.specs.Lookup.{lookedUp}
+use Rattle.space.proofs.laws.Insert.{refused-changes-nothing}
 use Rattle.table.specs.Slots.{idOf}
 use Rattle.table.specs.declared.CapabilityEntry.{CapabilityEntry}
 use Rattle.table.specs.declared.Got.{Got}
 use Rattle.world.specs.Numbers.{registeredOf}
-use Rattle.world.specs.Regions.{space, onRegion}
+use Rattle.world.specs.Regions.{space, startOf, sizeOf, onRegion}
 use Rattle.world.specs.declared.Numbers.{Numbers}
 use Rattle.steps.specs.Ready.{Fits, Ready}
 use Rattle.steps.specs.Steps.{spaceOf, holdStep, releaseStep, holdAllStep, releaseAllStep, insertStep, isEntry, removeStep, clearStep, copyStep}
@@ -43,6 +46,13 @@ module _ (d : Numbers) (s : ℕ) (mem : List ℕ) where
       insert-refused some =
           let no : eqb (numberOf (insertOut (spaceOf d s mem) e .answer)) 0 ≡ false = rw (← told, ← numbered) (ne-eqb number 0 some) in
           rw (no, came)
+
+  -- A space that refuses an entry leaves all as it is.
+  pub refused-insert : (e : CapabilityEntry) → numberOf (insertOut (spaceOf d s mem) e .answer) ≢ 0 → insertStep d s e mem ≡ mem
+  refused-insert e some =
+      sym (insert-refused e _ _ _ refl refl refl some)
+      ∙ onPart-same (startOf d (space s)) (sizeOf d (space s)) (λ sp. insertOut sp e .words) mem
+      (refused-changes-nothing (spaceOf d s mem) e (λ done. some (ap numberOf done)) .0)
 
   module _ (token : ℕ) (between : List ℕ) (got : Got) (left : between ≡ onRegion d (space s) (λ sp. removedToken sp token) mem)
       (told : got ≡ lookedUp (spaceOf d s mem) token .got)

@@ -1,7 +1,7 @@
 -- How a call enters: by what the code sees (`enteredSpace`), every call's definition is either its refusal or goes on with the numbers.
 use mathlib.Core.Bool.{Bool, true, false, not}
 use mathlib.Core.List.{List}
-use mathlib.Core.Path.{_≡_, refl, sym, ap, ap₂, _∙_}
+use mathlib.Core.Path.{_≡_, refl, sym, ap, _∙_}
 use Prim.Native.Nat.{ℕ, _<_, _≤_}
 use native.Mathlib.Omega.{arith}
 use borrow.Author.Tests.{ltb-true, lt-ltb, le-ltb}
@@ -15,10 +15,10 @@ use Rattle.world.specs.SoundLaws.{sound-exactly}
 use Rattle.world.specs.declared.Numbers.{Numbers}
 use Rattle.steps.specs.Enter.{onWorld, onSpace, enteredWorld, enteredSpace}
 use Rattle.steps.specs.Ready.{Ready}
-use Rattle.steps.specs.Replies.{Left}
 use Rattle.steps.specs.declared.Entered.{Entered}
 use Rattle.steps.specs.declared.Entered.the-variants.{Refused, Good}
 use Rattle.steps.proofs.laws.Ready.{ready-at}
+use Rattle.steps.proofs.Leaving.{left-both}
 
 -- What follows of what the code sees.
 abbrev pub go-on : {A : Type 0} → (Answer → A) → (Numbers → A) → Entered → A
@@ -137,12 +137,6 @@ module _ (mem : List ℕ) (s : ℕ) (r : Entered) (seen : r ≡ enteredSpace mem
 
   pub entered-there : (d : Numbers) → r ≡ Good d → s < d .spaces
   entered-there d is = space-ready mem s r seen d is .1
-
--- An answer with the memory that the call leaves, by its two parts.
-pub left-both :
-    {A : Type 0} (r r′ : A) (m m′ : List ℕ) → r ≡ r′ → m ≡ m′
-    → _≡_ {A = Left A} (record { reply = r; memory = m }) (record { reply = r′; memory = m′ })
-left-both r r′ m m′ same kept = ap₂ (λ r m. record { reply = r; memory = m }) same kept
 
 -- What every call of a space asks and answers once it was entered.
 pub ruleset enters = (refuses, makes, entered-ready, entered-there, left-both)

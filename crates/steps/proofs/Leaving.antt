@@ -5,9 +5,14 @@ use Prim.Native.Nat.{ℕ}
 use Rattle.steps.specs.Replies.{Left, WithArea}
 use Rattle.steps.specs.declared.Reply.{Reply}
 
+pub left-both :
+    {A : Type 0} (r r′ : A) (m m′ : List ℕ) → r ≡ r′ → m ≡ m′
+    → _≡_ {A = Left A} (record { reply = r; memory = m }) (record { reply = r′; memory = m′ })
+left-both r r′ m m′ same kept = ap₂ (λ r m. record { reply = r; memory = m }) same kept
+
 pub left-is : {A : Type 0} {r r′ : A} {m m′ : List ℕ} {x : Left A} → r ≡ r′ → m ≡ m′ → x ≡ record { reply = r′; memory = m′ }
     → record { reply = r; memory = m } ≡ x
-left-is same kept is = ap₂ (λ r m. record { reply = r; memory = m }) same kept ∙ sym is
+left-is same kept is = left-both _ _ _ _ same kept ∙ sym is
 
 pub area-is : {r r′ : Reply} {a a′ : List ℕ} {x : WithArea} → r ≡ r′ → a ≡ a′ → x ≡ record { reply = r′; area = a′ }
     → record { reply = r; area = a } ≡ x

@@ -4,6 +4,16 @@ ghost use Rattle.steps.specs.Replies as spec;
 use super::Reply;
 use answers::Answer;
 
+pub fn replied(answer: Answer, value: u64, count: usize) -> Reply
+    ensures { λ r. ⌜ r ≡ spec.replied answer value count ⌝ }
+{
+    Reply {
+        answer,
+        value,
+        count,
+    }
+}
+
 pub fn refusal(answer: Answer) -> Reply
     ensures { λ r. ⌜ r ≡ spec.refusal answer ⌝ }
 {

@@ -171,7 +171,7 @@ module _ (d : Numbers) (ok : InRange d) where
   length-le = omega (arith, mul-le-mul-left (d .spaces) width-le)
 
 -- The request stream's world, and the largest that can be opened.
-stream-length : lengthFor (record { spaces = 4; most = 32; places = 512; pairs = 512; queues = 2 }) ≡ 5687
+pub stream-length : lengthFor (record { spaces = 4; most = 32; places = 512; pairs = 512; queues = 2 }) ≡ 5687
 unfolding lengthFor widthOf nextPower first firstFrom
 stream-length = refl
 

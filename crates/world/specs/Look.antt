@@ -7,7 +7,7 @@ use Prim.Native.Nat.{ℕ, zero, suc, _+_, _*_, _<_, _≤_}
 use native.Mathlib.Nat.{add-zero, add-suc}
 use native.Mathlib.Numerals.{add-one}
 use native.Mathlib.Omega.{arith}
-use borrow.Author.Tests.{eqb-true, eq-eqb}
+use borrow.Author.Tests.{eqb-true}
 use lib.Dec.{eqb, leb}
 use lib.ListN.{length, getD, take}
 use lib.Seq.{length-take-le, getD-take}
@@ -15,7 +15,7 @@ use Rattle.base.specs.AllLaws.{all-more, all-ext}
 use Rattle.base.specs.Below.{all, sum, one}
 use Rattle.base.specs.Choose.{pick, both, both-left, both-right, both-true, both-false, refuted}
 use Rattle.base.specs.Distinct.{allDifferent}
-use Rattle.base.specs.Exactly.{same-test}
+use Rattle.base.specs.Exactly.{eqb-swap}
 use Rattle.base.specs.Compacted.{fold, passing, compacted, length-compacted, compacted-fold}
 use Rattle.base.specs.SumLaws.{sum-const-zero}
 use Rattle.table.specs.Slots.{isLive, idAt}
@@ -101,9 +101,6 @@ tally-none ids counts different room none =
 tally-ext : (ids : List ℕ) (f g : ℕ → ℕ) (counts : List ℕ) → Tally ids f counts → ((id : ℕ) → f id ≡ g id) → Tally ids g counts
 tally-ext ids f g counts tally same =
     record { differ = tally .differ; room = tally .room; count = λ k l. tally .count k l ∙ same (getD ids k 0) }
-
-eqb-swap : (a b : ℕ) → eqb a b ≡ eqb b a
-eqb-swap a b = same-test (eqb a b) (eqb b a) (λ h. eq-eqb b a (sym (eqb-true a b h)), λ h. eq-eqb a b (sym (eqb-true b a h)))
 
 slot-counts :
     (ids ws : List ℕ) (i : ℕ) (counts : List ℕ) (k : ℕ) → allDifferent ids ≡ true → length ids ≤ length counts → k < length ids

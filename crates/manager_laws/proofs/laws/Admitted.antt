@@ -2,24 +2,23 @@
 -- accepts an entry under its quota, of an id that is not there yet (`Accepts`).
 use mathlib.Core.List.{List}
 use mathlib.Core.Logic.{_≢_, _⊎_, inl, inr}
-use mathlib.Core.Path.{_≡_, refl, sym, ap, _∙_}
+use mathlib.Core.Path.{_≡_, refl, ap}
 use Prim.Native.Nat.{ℕ, _-_}
 use native.Mathlib.Omega.{arith}
 use borrow.Author.Tests.{eq-eqb, ne-eqb}
 use Rattle.answers.specs.Number.{numberOf}
 use Rattle.answers.specs.declared.Answer.the-variants.{Done, OutOfMemory}
-use Rattle.base.specs.Part.{onPart-same}
 use Rattle.space.specs.Change.{InsertOut, insertOut}
 use Rattle.space.specs.Lookup.{searchId}
-use Rattle.space.proofs.laws.Insert.{Accepts, insert-by-cases, refused-changes-nothing}
+use Rattle.space.proofs.laws.Insert.{Accepts, insert-by-cases}
 use Rattle.steps.specs.Replies.{replied, refuse}
 use Rattle.steps.specs.Steps.{spaceOf, newEntry, insertStep, unregisterStep, recycleStep, addStep}
-use Rattle.steps.proofs.ChangingEntries.{insert-refused}
+use Rattle.steps.proofs.ChangingEntries.{refused-insert}
 use Rattle.table.specs.Slots.{idOf}
 use Rattle.table.specs.declared.CapabilityEntry.{CapabilityEntry}
 use Rattle.table.specs.declared.Found.the-variants.{At, Absent}
 use Rattle.world.specs.Numbers.{registeredOf}
-use Rattle.world.specs.Regions.{space, startOf, sizeOf}
+use Rattle.world.specs.Regions.{space}
 use Rattle.world.specs.declared.Numbers.{Numbers}
 use Rattle.manager_calls.specs.Admit.{admitted}
 
@@ -47,15 +46,6 @@ module _ (sp : List ℕ) (e : CapabilityEntry) where
   refused-number none =
       insert-by-cases sp e (λ (o : InsertOut). numberOf (o .answer) ≢ 0) (λ over z. omega arith) (λ i under there z. omega arith)
       (λ a. absurd (none a))
-
--- A space that refuses it leaves all as it is.
-refused-insert :
-    (d : Numbers) (s : ℕ) (mem : List ℕ) (e : CapabilityEntry) → numberOf (insertOut (spaceOf d s mem) e .answer) ≢ 0
-    → insertStep d s e mem ≡ mem
-refused-insert d s mem e some =
-    sym (insert-refused d s mem e _ _ _ refl refl refl some)
-    ∙ onPart-same (startOf d (space s)) (sizeOf d (space s)) (λ sp. insertOut sp e .words) mem
-    (refused-changes-nothing (spaceOf d s mem) e (λ done. some (ap numberOf done)) .0)
 
 -- ---- what follows
 

@@ -8,15 +8,15 @@ use borrow.Author.Tests.{ltb-false, le-ltb}
 use lib.Dec.{eqb, ltb}
 use lib.ListN.{length, length-replicate}
 use Rattle.answers.specs.Number.{numberOf}
-use Rattle.base.specs.Arith.{nextPower}
-use Rattle.base.specs.Below.{all, first}
+use Rattle.base.specs.Below.{all}
 use Rattle.base.specs.Choose.{pick, when-no}
 use Rattle.base.specs.Written.{written}
 use Rattle.steps.specs.Replies.{Left, WithArea}
 use Rattle.steps.specs.declared.Reply.{Reply}
+use Rattle.world.specs.Layout.{stream-length}
 use Rattle.world.specs.Numbers.{inRangeTest}
 use Rattle.world.specs.Open as world
-use Rattle.world.specs.Regions.{widthOf, lengthFor}
+use Rattle.world.specs.Regions.{lengthFor}
 use Rattle.request.specs.Run.{numbers, quotas, wholeRun, linesFor, laidOut, runOut, programWorld, programLines}
 
 pub numbers-good : world.recordTest numbers quotas ≡ true
@@ -37,10 +37,6 @@ run-given-room bytes mem area long fits =
 
 -- ---- the program
 
-words-needed : lengthFor numbers ≡ 5687
-unfolding lengthFor widthOf nextPower first
-words-needed = refl
-
 most-lines : (n : ℕ) → linesFor n ≤ 2049
 most-lines n = go (ltb 49152 n) refl
   where
@@ -59,7 +55,7 @@ module _
     unfolding programWorld
     runs =
         told
-        ∙ run-given-room bytes (replicate 5687 0) area (omega (arith, words-needed, length-replicate {A = ℕ} 5687 0))
+        ∙ run-given-room bytes (replicate 5687 0) area (omega (arith, stream-length, length-replicate {A = ℕ} 5687 0))
         (omega (arith, most-lines (length bytes)))
 
     pub alone-writes : longer ≡ written (programLines bytes) area

@@ -8,6 +8,7 @@ use Prim.Native.Nat.{ℕ, zero, suc, _*_, _<_}
 use native.Mathlib.Omega.{arith}
 use lib.Dec.{ltb}
 use lib.ListN.{length}
+use Rattle.base.specs.Exactly.{one-exactly}
 use Rattle.base.specs.Below.{sum, one}
 use Rattle.base.specs.Distinct.{Among}
 use Rattle.revocation.specs.Log.{pairOf, logHas}
@@ -35,10 +36,6 @@ use Rattle.revocation_laws.proofs.laws.Queues.{listed-count}
 -- The pair of the token, its id and its generation, is logged.
 abbrev pub Logged : List ℕ → ℕ → Type 0
 Logged mem token = Among (loggedOf mem) (logPairs (numbersOf mem) mem) (pairOf (idOf token) (generationOf token))
-
-one-exactly : (b : Bool) → (one b ≡ 1) ↔ (b ≡ true)
-one-exactly true = (λ e. refl, λ e. refl)
-one-exactly false = (λ e. absurd (omega (arith, e)), λ e. absurd (true≢false (sym e)))
 
 zero-exactly : (b : Bool) → (one b ≡ 0) ↔ (b ≡ false)
 zero-exactly true = (λ e. absurd (omega (arith, e)), λ e. absurd (true≢false e))

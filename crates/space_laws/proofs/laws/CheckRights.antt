@@ -1,11 +1,12 @@
 -- `check_rights` in a user's words: its value is 1 exactly where the space holds the token with all the rights required, and else 0.
-use mathlib.Core.Bool.{Bool, true, false, true≢false}
+use mathlib.Core.Bool.{Bool, true, false}
 use mathlib.Core.List.{List}
 use mathlib.Core.Logic.{_↔_}
-use mathlib.Core.Path.{_≡_, refl, sym}
+use mathlib.Core.Path.{_≡_, refl}
 use Prim.Native.Nat.{ℕ, _<_}
 use native.Mathlib.Omega.{arith}
 use Rattle.base.specs.Below.{one}
+use Rattle.base.specs.Exactly.{one-exactly}
 use Rattle.space.specs.Lookup.{lookedUp}
 use Rattle.steps.specs.Replies.{Left}
 use Rattle.steps.specs.Steps.{spaceOf}
@@ -23,10 +24,6 @@ use Rattle.space_laws.proofs.laws.Holding.{Holding}
 -- An entry found, with the rights.
 abbrev Granted : ℕ → Got → Type 0
 Granted required got = (x : CapabilityEntry) × ((got ≡ Entry x) × (holds (x .rights .0) required ≡ true))
-
-one-exactly : (b : Bool) → (one b ≡ 1) ↔ (b ≡ true)
-one-exactly true = (λ e. refl, λ e. refl)
-one-exactly false = (λ e. absurd (omega arith), λ e. absurd (true≢false (sym e)))
 
 held-exactly : (required : ℕ) (got : Got) (visits : ℕ) → (heldReply required got visits .value ≡ 1) ↔ Granted required got
 held-exactly required (Entry e) visits = (

@@ -16,12 +16,12 @@ use Rattle.base.specs.Part.{onPart-same}
 use Rattle.space.specs.Change.{InsertOut, insertOut, removedFound, removedToken}
 use Rattle.space.specs.Lookup.{exactly, lookedUp}
 use Rattle.space.specs.Words.{generationOf, slotWords}
-use Rattle.space.proofs.laws.Insert.{insert-by-cases, refused-changes-nothing}
+use Rattle.space.proofs.laws.Insert.{insert-by-cases}
 use Rattle.steps.specs.Enter.{onSpace}
 use Rattle.steps.specs.Steps.{spaceOf, isEntry, insertStep, removeStep, takenId, takeStep, newEntry}
 use Rattle.steps.specs.declared.Taken.{Taken}
 use Rattle.steps.specs.declared.Taken.the-variants.{Id, Exhausted}
-use Rattle.steps.proofs.ChangingEntries.{insert-refused, remove-absent}
+use Rattle.steps.proofs.ChangingEntries.{refused-insert, remove-absent}
 use Rattle.steps.proofs.laws.TakeStep.{taken-free}
 use Rattle.steps.proofs.laws.Taking.{take-by-cases}
 use Rattle.table.specs.Walk.{gotAt}
@@ -55,10 +55,8 @@ module _ (d : Numbers) (s : ℕ) (mem : List ℕ) where
   abbrev sp : List ℕ
   sp = spaceOf d s mem
 
-  refused-insert : (e : CapabilityEntry) → insertOut sp e .answer ≢ Done → insertStep d s e mem ≡ mem
-  refused-insert e not-done =
-      sym (insert-refused d s mem e _ _ _ refl refl refl (λ z. not-done (zero-is-done sp e z)))
-      ∙ onPart-same (startOf d (space s)) (sizeOf d (space s)) (λ sp. insertOut sp e .words) mem (refused-changes-nothing sp e not-done .0)
+  insert-undone : (e : CapabilityEntry) → insertOut sp e .answer ≢ Done → insertStep d s e mem ≡ mem
+  insert-undone e not-done = refused-insert d s mem e (λ z. not-done (zero-is-done sp e z))
 
   nothing-removed : (token : ℕ) → lookedUp sp token .got ≡ Nothing → removedToken sp token ≡ sp
   unfolding lookedUp removedToken
@@ -100,7 +98,7 @@ module _ (mem : List ℕ) where
       (s token object rights : ℕ) → insertCallOut mem s token object rights .reply .answer ≢ Done
       → insertCallOut mem s token object rights .memory ≡ mem
   unfolding insertCallOut
-  insert-unchanged s token object rights = on-space s _ (refused-insert d s mem (newEntry token object rights))
+  insert-unchanged s token object rights = on-space s _ (insert-undone d s mem (newEntry token object rights))
 
   pub remove-unchanged : (s token : ℕ) → removeOut mem s token .reply .answer ≢ Done → removeOut mem s token .memory ≡ mem
   unfolding removeOut
@@ -189,7 +187,7 @@ module _ (mem : List ℕ) where
       tokened :
           (id : ℕ) (m : Made) → createMade d s rights object id after m .reply .answer ≢ Done
           → createMade d s rights object id after m .memory ≡ after
-      tokened id (Token t) = refused-insert d s after (newEntry (t .0) object rights)
+      tokened id (Token t) = insert-undone d s after (newEntry (t .0) object rights)
       tokened id (Refused a) = λ not-done. refl
 
       taken :

@@ -9,9 +9,9 @@ use native.Mathlib.Omega.{arith}
 use borrow.Author.Tests.{eqb-true, eq-eqb}
 use lib.Dec.{eqb}
 use Rattle.base.specs.Below.{first, sum, one}
-use Rattle.base.specs.Choose.{both-left, both-right, both-make}
+use Rattle.base.specs.Choose.{both-left, both-right, both-make, refuted}
 use Rattle.base.specs.AllLaws.{all-make, all-fails}
-use Rattle.base.specs.Exactly.{same-test}
+use Rattle.base.specs.Exactly.{same-test, eqb-swap}
 use Rattle.base.specs.FirstLaws.{first-le, first-passes, first-before}
 use Rattle.base.specs.SumLaws.{sum-const-zero, sum-update}
 use Rattle.registry.specs.HoldersLaws.{count}
@@ -25,14 +25,6 @@ use Rattle.space.specs.Words.{tableOf, slotWords}
 use Rattle.space.proofs.laws.Held.{Has}
 use Rattle.space.proofs.laws.View.{view}
 use Rattle.world.specs.Sound.{entryOf, hasEntry}
-
--- A test that cannot hold fails.
-not-so : (b : Bool) → ¬ (b ≡ true) → b ≡ false
-not-so true h = absurd (h refl)
-not-so false h = refl
-
-eqb-turned : (a b : ℕ) → eqb a b ≡ eqb b a
-eqb-turned a b = same-test (eqb a b) (eqb b a) (λ e. eq-eqb b a (sym (eqb-true a b e)), λ e. eq-eqb a b (sym (eqb-true b a e)))
 
 -- Some number below n passes a test, or none does.
 some-or-none : (p : ℕ → Bool) (n : ℕ) → ((i : ℕ) × (i < n) × (p i ≡ true)) ⊎ ((k : ℕ) → k < n → p k ≡ false)
@@ -88,7 +80,7 @@ module _ (sp : List ℕ) (id : ℕ) where
   )
 
   pub no-entry : ¬ OfId sp id → hasEntry sp id ≡ false
-  no-entry none = not-so (hasEntry sp id) (λ h. none (entry-exactly .0 h))
+  no-entry none = refuted (hasEntry sp id) (λ h. none (entry-exactly .0 h))
 
 -- Spaces with entries of the same ids.
 pub same-entry : (sp after : List ℕ) (id : ℕ) → OfId after id ↔ OfId sp id → hasEntry after id ≡ hasEntry sp id
@@ -115,7 +107,7 @@ module _ (most : ℕ) (sp : List ℕ) (s : SpaceOf most sp) (id : ℕ) where
   alone : (i : ℕ) → i < tableOf sp .slots → entryOf (slotWords sp) id i ≡ true → (k : ℕ) → k < tableOf sp .slots → k ≢ i → ones k ≡ 0
   alone i l e k u d =
       ap one
-      (not-so (entryOf (slotWords sp) id k)
+      (refuted (entryOf (slotWords sp) id k)
       (λ h.
       let (live, same) = live-of sp id i e in
       let (live′, same′) = live-of sp id k h in
@@ -139,7 +131,7 @@ module _ (most : ℕ) (sp : List ℕ) (s : SpaceOf most sp) (id : ℕ) where
   -- A live slot adds one where it has the id, any other slot nothing.
   taken : (i : ℕ) → isLive (slotWords sp) i ≡ true → one (eqb id (idOf (entryAt (slotWords sp) i))) ≡ ones i
   unfolding entryAt
-  taken i live = rw live (ap one (eqb-turned id (idAt (slotWords sp) i)))
+  taken i live = rw live (ap one (eqb-swap id (idAt (slotWords sp) i)))
 
   passed : (i : ℕ) → isLive (slotWords sp) i ≡ false → ones i ≡ 0
   passed i free = rw free

@@ -5,21 +5,17 @@ use mathlib.Core.List.{List}
 use Prim.Native.Nat.{ℕ, _≤_}
 use native.Mathlib.Omega.{arith}
 use borrow.Author.Needs.{needs}
-use borrow.Author.Tests.{eqb-true, eq-eqb}
 use lib.Dec.{eqb}
 use lib.ListN.{length, getD, take}
 use lib.Seq.{length-take-le, getD-take}
 use Rattle.base.specs.AllLaws.{all-ext}
-use Rattle.base.specs.Exactly.{same-test}
+use Rattle.base.specs.Exactly.{eqb-swap}
 use Rattle.base.specs.Place.{holds, placeOf, isNowhere, nowhere-test}
 use Rattle.base.specs.declared.distinct.Place.{Place}
 use Rattle.registry.specs.Words.{idAt}
 use Rattle.registry.specs.Sound.{unregisteredId}
 use Rattle.registry.proofs.look.unregistered.Statement.{statement}
 use Rattle.registry.proofs.look.unregistered.Tie as tie
-
-swapped : (a b : ℕ) → eqb a b ≡ eqb b a
-swapped a b = same-test (eqb a b) (eqb b a) (λ h. eq-eqb b a (sym (eqb-true a b h)), λ h. eq-eqb a b (sym (eqb-true b a h)))
 
 module _ (rg : List ℕ) (n id : ℕ) (fits : n ≤ length rg) (p : Place) (found : p ≡ placeOf (take n rg) id) where
   nowhere : isNowhere p ≡ unregisteredId n (idAt rg) id
@@ -28,7 +24,7 @@ module _ (rg : List ℕ) (n id : ℕ) (fits : n ≤ length rg) (p : Place) (foun
       (nowhere-test (take n rg) id
       ∙ rw (length-take-le n rg fits)
       (all-ext n (λ k. not (holds (take n rg) id k)) (λ k. not (eqb id (idAt rg k)))
-      (λ k l. rw (getD-take n rg k 0 l, swapped (getD rg k 0) id))))
+      (λ k l. rw (getD-take n rg k 0 l, eqb-swap (getD rg k 0) id))))
 
 slice-aggregate-place-of : tie.Need-slice-aggregate-place-of
 slice-aggregate-place-of c = sym (length-take-le _ _ (omega arith))

@@ -44,17 +44,17 @@ module _ (d : Numbers) (token time : ℕ) (listed mem : List ℕ) (got : Got) (v
 returns : tie.Need-returns
 returns c =
     let tested = c .before .before in
-    left-is (c .visited2 .ensures) refl
+    left-is (c .replied2 .ensures) refl
     (denied _ _ _ _ _ _ _ _ (tested .before .before .before .got .given .1) _ (tested .contains .ensures) (c .before .if1 .taken))
 
 returns-2 : tie.Need-returns-2
-returns-2 c = left-is (c .visited .ensures) refl (absent _ _ _ _ _ _ _ (c .before .enum-told .given .1))
+returns-2 c = left-is (c .replied .ensures) refl (absent _ _ _ _ _ _ _ (c .before .enum-told .given .1))
 
 returns-3 : tie.Need-returns-3
 returns-3 c =
     let call = c .before .before .before in
     let tested = call .before .before .before in
-    left-is (c .visited3 .ensures) refl
+    left-is (c .replied3 .ensures) refl
     (allowed _ _ _ _ _ _ _ _ (tested .before .before .before .got .given .1) _ (tested .contains .ensures) (call .before .before .if1 .left)
     _ _ (call .revoke-token .ensures))
 
