@@ -42,7 +42,11 @@ module _ (places n id k : ℕ) (rg : List ℕ) (e : k ≡ placeOf n rg id) where
 
 pub ruleset one-id = (needs, hold-found, hold-none, release-found, release-few, release-none)
 
--- ---- a list of ids: what is left to do, done, is the answer ys
+-- ---- a list of ids
+
+-- The first j are done: with the others, rg becomes what all make of rg₀, the registry as it was lent.
+abbrev pub EachFrom : (ℕ → List ℕ → List ℕ) → List ℕ → List ℕ → List ℕ → ℕ → Type 0
+EachFrom change ids rg₀ rg j = (j ≤ length ids) × (length rg ≡ length rg₀) × (eachId change (drop j ids) rg ≡ eachId change ids rg₀)
 
 module _ (change : ℕ → List ℕ → List ℕ) (j : ℕ) (ids rg ys : List ℕ) where
   pub id-turn : (rg′ : List ℕ) → eachId change (drop j ids) rg ≡ ys → j < length ids → rg′ ≡ change (getD ids j 0) rg

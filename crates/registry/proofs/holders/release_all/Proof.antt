@@ -1,15 +1,13 @@
 -- `registry::holders::release_all` meets its contract: with the ids from j on, what is done so far becomes the answer.
-use mathlib.Core.Path.{_≡_}
-use Prim.Native.Nat.{_-_, _≤_}
-use lib.ListN.{length, drop}
-use Rattle.registry.specs.Holders.{releasedAll}
-use Rattle.registry.proofs.Holding.{each-id}
+use Prim.Native.Nat.{_-_}
+use lib.ListN.{length}
+use Rattle.registry.specs.Holders.{released}
+use Rattle.registry.proofs.Holding.{EachFrom, each-id}
 use Rattle.registry.proofs.holders.release_all.Statement.{statement}
 use Rattle.registry.proofs.holders.release_all.Tie as tie
 
 abbrev Inv-loop : tie.InvT-loop
-Inv-loop rg₀ places n ids j₀ rg j = (j ≤ length ids) × (length rg ≡ length rg₀)
-    × (releasedAll places n (drop j ids) rg ≡ releasedAll places n ids rg₀)
+Inv-loop rg₀ places n ids j₀ rg j = EachFrom (released places n) ids rg₀ rg j
 
 abbrev μ-loop : tie.MeasureT-loop
 μ-loop rg₀ places n ids j₀ rg j = length ids - j
