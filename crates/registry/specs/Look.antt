@@ -59,20 +59,17 @@ recycled-passed places n m next rg =
 unfoldable pub placesTest : ℕ → ℕ → ℕ → List ℕ → Bool
 placesTest places n next rg = both (all n (placeTest places next rg)) (shortTest n (linkAt places rg))
 
--- The passes once the ids are known to differ: the places with their lists, then each recycled id.
-unfoldable pub passesTest : ℕ → ℕ → ℕ → ℕ → List ℕ → Bool
-passesTest places n m next rg = both (placesTest places n next rg) (all m (recycledIdTest places n next rg))
-
 pub registry-passed :
     (places n m next : ℕ) (rg : List ℕ)
-    → registryTest places n m next rg ≡ both (differTest n (idAt rg)) (passesTest places n m next rg)
-unfolding registryTest passesTest placesTest
+    → registryTest places n m next rg
+    ≡ both (placesTest places n next rg) (both (differTest n (idAt rg)) (all m (recycledIdTest places n next rg)))
+unfolding registryTest placesTest
 registry-passed places n m next rg =
     rw (places-passed, recycled-passed)
     (same-test _ _
     (simp both-exactly (
       λ (differ, (issued, (ascend, (unregistered, (recycled, (linked, (hasList, (short, cascaded)))))))).
-          (differ, (((issued, (linked, (hasList, cascaded))), short), (ascend, (unregistered, recycled)))),
-      λ (differ, (((issued, (linked, (hasList, cascaded))), short), (ascend, (unregistered, recycled)))).
+          (((issued, (linked, (hasList, cascaded))), short), (differ, (ascend, (unregistered, recycled)))),
+      λ (((issued, (linked, (hasList, cascaded))), short), (differ, (ascend, (unregistered, recycled)))).
           (differ, (issued, (ascend, (unregistered, (recycled, (linked, (hasList, (short, cascaded)))))))),
     )))

@@ -10,7 +10,7 @@ ghost use Rattle.base.specs.Choose.{both};
 ghost use Rattle.registry.specs.Words.{idAt, stateAt, linkAt, revoked, hasList, holders};
 ghost use Rattle.registry.specs.Sound.{unregisteredId, withinTest, registryTest};
 ghost use Rattle.registry.specs.Counts.{Counted, countEntry, countEntries, AtMost};
-ghost use Rattle.registry.specs.Look.{placeTest, placesTest, recycledIdTest, passesTest};
+ghost use Rattle.registry.specs.Look.{placeTest, placesTest, recycledIdTest};
 use base::distinct::Place;
 use base::distinct::index;
 use base::distinct::place_of;
@@ -134,26 +134,6 @@ fn recycled_sound(
     true
 }
 
-// The passes once the ids are indexed.
-fn passes_sound(
-    rg: &[u64],
-    places: usize,
-    n: usize,
-    m: usize,
-    next: u64,
-    heads: &[u16],
-    prevs: &[u16],
-) -> bool
-    requires { ⌜ (n ≤ places) × (m ≤ places + 1) × (places ≤ 4095) × (5 * places + 1 ≤ length (now rg)) ⌝ }
-    requires { ⌜ Chained (take n (now rg)) (now heads) (now prevs) (length (take n (now rg))) ⌝ }
-    ensures { λ r. ⌜ r ≡ passesTest places n m next (now (rg .entry)) ⌝ }
-{
-    if places_sound(rg, places, n, next) {
-        return recycled_sound(rg, places, n, m, next, heads, prevs);
-    }
-    false
-}
-
 // The rules of a registry of n registered and m recycled ids, but for the holders'. If they hold, heads and prevs, which index nothing
 // yet, are left as the index of the registered ids.
 pub fn registry_sound(
@@ -172,8 +152,11 @@ pub fn registry_sound(
         (r ≡ true → Chained (take n (now (rg .entry))) (now (heads .exit)) (now (prevs .exit)) (length (take n (now (rg .entry)))))
         ⌝ }
 {
+    if !places_sound(rg, places, n, next) {
+        return false;
+    }
     if index(&rg[..n], heads, prevs) {
-        return passes_sound(rg, places, n, m, next, heads, prevs);
+        return recycled_sound(rg, places, n, m, next, heads, prevs);
     }
     false
 }
