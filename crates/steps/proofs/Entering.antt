@@ -4,12 +4,15 @@ use mathlib.Core.List.{List}
 use mathlib.Core.Path.{_≡_, refl, sym, ap, _∙_}
 use Prim.Native.Nat.{ℕ, _<_, _≤_}
 use native.Mathlib.Omega.{arith}
-use borrow.Author.Tests.{ltb-true, lt-ltb, le-ltb}
+use borrow.Author.Needs.{needs}
+use borrow.Author.Tests.{ltb-true, lt-ltb, le-ltb, not-false}
 use lib.Dec.{ltb}
+use lib.ListN.{length}
 use Rattle.answers.specs.declared.Answer.{Answer}
 use Rattle.answers.specs.declared.Answer.the-variants.{BadSpace, BadWorld}
 use Rattle.base.specs.Choose.{when, when-yes, when-no}
 use Rattle.world.specs.Numbers.{numbersOf}
+use Rattle.world.specs.Regions.{lengthFor}
 use Rattle.world.specs.Sound.{Sound, SoundAt, soundTest}
 use Rattle.world.specs.SoundLaws.{sound-exactly}
 use Rattle.world.specs.declared.Numbers.{Numbers}
@@ -143,22 +146,32 @@ pub ruleset enters = (refuses, makes, entered-ready, entered-there, left-both)
 
 -- ---- the code's own ways
 
-module _ (mem : List ℕ) where
-  pub enters-26 : soundTest mem ≡ false → (s : ℕ) → (Refused BadWorld ≡ enteredWorld mem) × (Refused BadWorld ≡ enteredSpace mem s)
-  unfolding onSpace onWorld
-  enters-26 t s = (sym (when-yes _ _ _ (ap not t)), sym (when-yes _ _ _ (ap not t)))
+module _ (mem : List ℕ) (sound : Bool) (looked : sound ≡ soundTest mem) where
+  pub world-unsound : not sound ≡ true → Refused BadWorld ≡ enteredWorld mem
+  unfolding onWorld
+  world-unsound t = sym (when-yes _ _ _ (ap not (sym looked) ∙ t))
 
-  module _ (t : soundTest mem ≡ true) where
-    pub enters-world : (d : Numbers) → d ≡ numbersOf mem → Good d ≡ enteredWorld mem
+  module _ (t : not sound ≡ false) where
+    pub head-there : 16 ≤ length mem
+    unfolding lengthFor
+    head-there = omega (arith, sound-exactly mem .0 (sym looked ∙ not-false sound t) .long-enough)
+
+    pub world-good : (d : Numbers) → d ≡ numbersOf mem → Good d ≡ enteredWorld mem
     unfolding onWorld
-    enters-world d is = rw is (sym (when-no _ _ _ (ap not t)))
+    world-good d is = rw is (sym (when-no _ _ _ (ap not (sym looked) ∙ t)))
 
-    pub enters-20 : (s : ℕ) (d : Numbers) → d ≡ numbersOf mem → d .spaces ≤ s → Refused BadSpace ≡ enteredSpace mem s
-    unfolding onSpace onWorld
-    enters-20 s d is l =
-        sym (when-no _ _ _ (ap not t) ∙ when-yes _ _ _ (ap not (le-ltb s (numbersOf mem .spaces) (rw is at l))))
+module _ (mem : List ℕ) (r : Entered) (seen : r ≡ enteredWorld mem) (s : ℕ) where
+  pub space-unsound : (a : Answer) → r ≡ Refused a → Refused a ≡ enteredSpace mem s
+  unfolding onSpace
+  space-unsound a is = sym (world-refusal mem r seen Refused _ a is)
 
-    pub enters-space : (s : ℕ) (d : Numbers) → d ≡ numbersOf mem → s < d .spaces → Good d ≡ enteredSpace mem s
-    unfolding onSpace onWorld
-    enters-space s d is l =
-        rw is (sym (when-no _ _ _ (ap not t) ∙ when-no _ _ _ (ap not (lt-ltb s (numbersOf mem .spaces) (rw is at l)))))
+  module _ (d : Numbers) (good : r ≡ Good d) where
+    pub space-bad : d .spaces ≤ s → Refused BadSpace ≡ enteredSpace mem s
+    unfolding onSpace
+    space-bad l = sym (world-call mem r seen d good Refused _ ∙ when-yes _ _ _ (ap not (le-ltb s (d .spaces) l)))
+
+    pub space-good : s < d .spaces → Good d ≡ enteredSpace mem s
+    unfolding onSpace
+    space-good l = sym (world-call mem r seen d good Refused _ ∙ when-no _ _ _ (ap not (lt-ltb s (d .spaces) l)))
+
+pub ruleset entering = (needs, world-unsound, head-there, world-good, space-unsound, space-bad, space-good)

@@ -20,12 +20,13 @@ pub fn enter_world(mem: &[u64]) -> Entered
 pub fn enter_space(mem: &[u64], s: usize) -> Entered
     ensures { λ r. ⌜ r ≡ enteredSpace (now (mem .entry)) s ⌝ }
 {
-    if !is_sound(mem) {
-        return Entered::Refused(Answer::BadWorld);
+    match enter_world(mem) {
+        Entered::Refused(answer) => Entered::Refused(answer),
+        Entered::Good(d) => {
+            if d.spaces <= s {
+                return Entered::Refused(Answer::BadSpace);
+            }
+            Entered::Good(d)
+        }
     }
-    let d = numbers(mem);
-    if d.spaces <= s {
-        return Entered::Refused(Answer::BadSpace);
-    }
-    Entered::Good(d)
 }
