@@ -3,7 +3,7 @@ use mathlib.Core.Bool.{true, false}
 use mathlib.Core.List.{List}
 use mathlib.Core.Logic.{_≢_}
 use mathlib.Core.Path.{_≡_, refl, sym, ap, _∙_}
-use Prim.Native.Nat.{ℕ, _%_, _^_}
+use Prim.Native.Nat.{ℕ}
 use borrow.Author.Tests.{eq-eqb, ne-eqb}
 use lib.Dec.{eqb}
 use lib.ListN.{length}
@@ -18,6 +18,7 @@ use Rattle.space.proofs.laws.Insert.{refused-changes-nothing}
 use Rattle.table.specs.Slots.{idOf}
 use Rattle.table.specs.declared.CapabilityEntry.{CapabilityEntry}
 use Rattle.table.specs.declared.Got.{Got}
+use Rattle.token.specs.Token.{idOf as tokenId}
 use Rattle.world.specs.Numbers.{registeredOf}
 use Rattle.world.specs.Regions.{space, startOf, sizeOf, onRegion}
 use Rattle.world.specs.declared.Numbers.{Numbers}
@@ -34,12 +35,12 @@ module _ (d : Numbers) (s : ℕ) (mem : List ℕ) where
       (came : between ≡ onRegion d (space s) (λ sp. insertOut sp e .words) mem)
       (told : answer ≡ insertOut (spaceOf d s mem) e .answer) (numbered : number ≡ numberOf answer)
     where
-      pub insert-accepted : number ≡ 0 → (after : List ℕ) → after ≡ holdStep d (registeredOf mem) (idOf e) between
+      pub insert-accepted : number ≡ 0 → (id : ℕ) → id ≡ idOf e → (after : List ℕ) → after ≡ holdStep d (registeredOf mem) id between
           → after ≡ insertStep d s e mem
       unfolding insertStep
-      insert-accepted zero after held =
+      insert-accepted zero id is after held =
           let yes : eqb (numberOf (insertOut (spaceOf d s mem) e .answer)) 0 ≡ true = rw (← told, ← numbered) (eq-eqb number 0 zero) in
-          rw (yes, held, came)
+          rw (yes, held, is, came)
 
       pub insert-refused : ¬ (number ≡ 0) → between ≡ insertStep d s e mem
       unfolding insertStep
@@ -57,10 +58,10 @@ module _ (d : Numbers) (s : ℕ) (mem : List ℕ) where
   module _ (token : ℕ) (between : List ℕ) (got : Got) (left : between ≡ onRegion d (space s) (λ sp. removedToken sp token) mem)
       (told : got ≡ lookedUp (spaceOf d s mem) token .got)
     where
-      pub remove-found : isEntry got ≡ true → (after : List ℕ) → after ≡ releaseStep d (registeredOf mem) (token % 2 ^ 48) between
-          → after ≡ removeStep d s token mem
+      pub remove-found : isEntry got ≡ true → (id : ℕ) → id ≡ tokenId token → (after : List ℕ)
+          → after ≡ releaseStep d (registeredOf mem) id between → after ≡ removeStep d s token mem
       unfolding removeStep
-      remove-found is after released = rw (← told, is, released, left)
+      remove-found found id is after released = rw (← told, found, released, is, left)
 
       pub remove-absent : isEntry got ≡ false → between ≡ removeStep d s token mem
       unfolding removeStep

@@ -116,7 +116,7 @@ pub fn insert(mem: &mut [u64], d: Numbers, s: usize, entry: CapabilityEntry) -> 
     let r = insert_entry(mem, d, s, entry);
     let answer = r.answer;
     if answer.number() == 0 {
-        hold(mem, d, n, capability.0 % 0x1_0000_0000_0000);
+        hold(mem, d, n, capability.id());
         return r;
     }
     r
@@ -144,7 +144,7 @@ pub fn remove(mem: &mut [u64], d: Numbers, s: usize, token: CapabilityToken) -> 
     let got = r.got;
     match got {
         Got::Entry(_) => {
-            release(mem, d, n, token.0 % 0x1_0000_0000_0000);
+            release(mem, d, n, token.id());
             r
         }
         Got::Nothing => r,

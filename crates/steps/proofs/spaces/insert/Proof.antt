@@ -6,10 +6,11 @@ use Rattle.steps.proofs.spaces.insert.Tie as tie
 
 returns : tie.Need-returns
 returns c =
-    let test = c .before .before .before .before .before in
+    let holds = c .before .before in
+    let test = holds .before .before .before in
     let put = test .before .before .before .before .insert-entry .ensures in (
       insert-accepted _ _ _ _ _ _ _ (put .0) (put .1 .0) (test .before .number .ensures) (test .if1 .taken) _
-          (c .before .before .hold .ensures),
+          (holds .before .id .ensures) _ (holds .hold .ensures),
       put .1,
     )
 
@@ -23,6 +24,7 @@ insert-spec =
     tie.close
     (tie.spec
     (λ c. search needs)
+    (λ c κs. search needs)
     (λ c κs. search needs)
     (λ c κs. search needs)
     (λ c κs. search (still-fits, needs))

@@ -9,10 +9,11 @@ use Rattle.steps.proofs.spaces.remove.Tie as tie
 
 returns : tie.Need-returns
 returns c =
-    let arm = c .before .before .before .before .before in
+    let releases = c .before .before in
+    let arm = releases .before .before .before in
     let left = arm .before .before .before .before .remove-entry .ensures in (
       remove-found _ _ _ _ _ _ (left .0) (ap (λ (l : LookedUp). l .got) (left .1)) (ap isEntry (arm .enum-told .given .1)) _
-          (c .before .before .release .ensures),
+          (releases .before .id .ensures) _ (releases .release .ensures),
       left .1,
     )
 
@@ -28,6 +29,7 @@ remove-spec =
     (λ c. search needs)
     (λ c κs. search needs)
     (λ c. search needs)
+    (λ c κs. search needs)
     (λ c κs. search (still-fits, needs))
     (λ c. search needs)
     (λ c. search needs)
