@@ -7,11 +7,11 @@ ghost use Rattle.delegation_calls.specs.Delegation.{heldWith, openChild,
 ghost use Rattle.delegation_calls.specs.Offer.{offerOf};
 use manager_calls::tokens::token_of;
 use space::LookedUp;
+use space_steps::spaces;
 use steps::registered::id_at;
 use steps::registered::link_at;
 use steps::registered::place_of;
 use steps::registered::state_at;
-use steps::spaces;
 use table::Got;
 use token::CapabilityToken;
 use token::Rights;

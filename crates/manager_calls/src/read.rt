@@ -4,6 +4,7 @@ ghost use Rattle.manager_calls.specs.Calls.{noStats, statsOut, childrenO
 use super::StatsReply;
 use super::TreeReply;
 use answers::Answer;
+use space_steps::spaces;
 use steps::Entered;
 use steps::Reply;
 use steps::enter::enter_space;
@@ -11,7 +12,6 @@ use steps::enter::enter_world;
 use steps::registered;
 use steps::replies::done;
 use steps::replies::refusal;
-use steps::spaces;
 
 fn no_stats(answer: Answer) -> StatsReply
     ensures { λ r. ⌜ r ≡ noStats answer ⌝ }

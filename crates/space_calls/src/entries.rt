@@ -8,11 +8,11 @@ use super::replies::no_entry;
 use super::replies::nth_reply;
 use super::replies::rights_reply;
 use answers::Answer;
+use space_steps::spaces;
 use steps::Entered;
 use steps::Reply;
 use steps::enter::enter_space;
 use steps::replies::refusal;
-use steps::spaces;
 use token::CapabilityToken;
 use token::Rights;
 

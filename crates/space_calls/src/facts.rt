@@ -6,11 +6,11 @@ use super::FactsReply;
 use super::StatsReply;
 use super::replies::no_facts;
 use answers::Answer;
+use space_steps::spaces::facts;
 use steps::Entered;
 use steps::Reply;
 use steps::enter::enter_space;
 use steps::replies::replied;
-use steps::spaces::facts;
 
 // All that a space says, or a refusal with zeros.
 fn all_facts(mem: &[u64], s: usize) -> FactsReply

@@ -6,6 +6,7 @@ ghost use Rattle.space_calls.specs.Calls.{allocOut, createTaken, createO
 use super::changes::insert_new;
 use super::replies::gone_reply;
 use answers::Answer;
+use space_steps::spaces;
 use steps::Entered;
 use steps::Reply;
 use steps::Taken;
@@ -14,7 +15,6 @@ use steps::enter::enter_world;
 use steps::ids::take_id;
 use steps::replies::done;
 use steps::replies::refusal;
-use steps::spaces;
 use token::CapabilityToken;
 use token::Made;
 use token::Rights;

@@ -3,5 +3,4 @@ pub mod laws
 pub mod Entering
 pub mod Lending
 pub mod ChangingEntries
-pub mod Copying
 pub mod Leaving

@@ -1,12 +1,12 @@
 // The steps that calls are made of. Each lends the regions of the world's memory to the functions of their structures; what a step does
 // is a definition over the whole memory (specs/). Taking an id, every step on a space and every step of the registry, on its condition,
-// keep a sound memory sound (proofs/laws); counting a holder is part of a step on a space.
+// keep a sound memory sound (proofs/laws); counting a holder is part of a step on a space. The code of the steps on a space is
+// `space_steps`.
 pub mod enter;
 pub mod holders;
 pub mod ids;
 pub mod registered;
 pub mod replies;
-pub mod spaces;
 
 use answers::Answer;
 use world::Numbers;

@@ -1,0 +1,2 @@
+-- What the proofs of `space_steps` share.
+pub mod Copying
