@@ -4,7 +4,6 @@ pub mod Sound
 pub mod SoundLaws
 pub mod Rules
 pub mod StatesOnly
-pub mod Look
 pub mod Counts
 pub mod Holders
 pub mod HoldersLaws

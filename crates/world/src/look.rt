@@ -23,9 +23,9 @@ use crate::regions::queue_at;
 use crate::regions::registry_at;
 use crate::regions::space_at;
 use crate::regions::width;
-use registry::look::count_entries;
-use registry::look::holders_within;
-use registry::look::registry_sound;
+use registry_look::count_entries;
+use registry_look::holders_within;
+use registry_look::registry_sound;
 use table::Slot;
 
 // The counts and the next id, in their ranges.

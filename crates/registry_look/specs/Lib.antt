@@ -1,0 +1,2 @@
+-- What the contracts of `registry_look` cite beside the rules themselves.
+pub mod Look
