@@ -13,22 +13,24 @@ use lib.Seq.{getD-set-same, getD-set-other}
 use Rattle.base.specs.Distinct.{Among}
 use Rattle.base.specs.FirstLaws.{first-le, first-passes, first-before}
 use Rattle.base.specs.Shift.{shiftedUp, length-shiftedDown, shiftedDown-before, shiftedDown-in, length-shiftedUp, shiftedUp-before, shiftedUp-in}
-use Rattle.registry.specs.Words.{idAt, recycledAt, revoked, hasList}
-use Rattle.registry.specs.Sound.{Ascend}
+use Rattle.registry.specs.Words.{idAt, stateAt, recycledAt, revoked, hasList}
+use Rattle.registry.specs.Sound.{Ascend, Held}
 use Rattle.registry.specs.Ids.{firstTaken, joinPlace, recycledWith}
 use Rattle.registry.specs.Rules.{RegisteredRules, RecycledRules, RegistryRules, registered-same}
 use Rattle.registry.specs.Without.{Without, past-cases, among-without}
 
--- The rules of registered ids read the columns alone.
-columns-registered :
-    (places n next : ℕ) (rg rg′ : List ℕ) → n ≤ places → ((i : ℕ) → i < 4 * places → getD rg′ i 0 ≡ getD rg i 0)
-    → RegisteredRules places n next rg → RegisteredRules places n next rg′
-columns-registered places n next rg rg′ fit columns =
-    registered-same places n next rg rg′
-    (λ k l. columns k (omega arith))
-    (λ k l. columns (3 * places + k) (omega arith))
-    (λ k l. ap hasList (columns (2 * places + k) (omega arith)))
-    (λ k l. ap revoked (columns (2 * places + k) (omega arith)))
+-- The rules of registered ids and of holders read the columns alone.
+module _ (places n : ℕ) (rg rg′ : List ℕ) (fit : n ≤ places) (columns : (i : ℕ) → i < 4 * places → getD rg′ i 0 ≡ getD rg i 0) where
+  columns-registered : (next : ℕ) → RegisteredRules places n next rg → RegisteredRules places n next rg′
+  columns-registered next =
+      registered-same places n next rg rg′
+      (λ k l. columns k (omega arith))
+      (λ k l. columns (3 * places + k) (omega arith))
+      (λ k l. ap hasList (columns (2 * places + k) (omega arith)))
+      (λ k l. ap revoked (columns (2 * places + k) (omega arith)))
+
+  columns-held : (spaces : ℕ → ℕ) → Held n (idAt rg) (stateAt places rg) spaces → Held n (idAt rg′) (stateAt places rg′) spaces
+  columns-held spaces held k l = rw (columns k (omega arith), columns (2 * places + k) (omega arith)) (held k l)
 
 -- ---- taking the smallest
 
@@ -53,11 +55,8 @@ module _ (places m : ℕ) (rg : List ℕ) (some : 0 < m) (fit : m ≤ places + 1
       ∙ ap (λ i. getD rg i 0) (omega arith)
 
   module _ (n next : ℕ) (registered-fit : n ≤ places) where
-    pub taken-registered : RegisteredRules places n next rg → RegisteredRules places n next (firstTaken places m rg)
-    taken-registered = columns-registered places n next rg (firstTaken places m rg) registered-fit taken-columns
-
     module _ (rules : RecycledRules places n m next rg) where
-      pub taken-others : RecycledRules places n (m - 1) next (firstTaken places m rg)
+      taken-others : RecycledRules places n (m - 1) next (firstTaken places m rg)
       taken-others = record {
         ascend = λ k l. rw (taken-recycled k (omega arith), taken-recycled (suc k) (omega arith)) (rules .ascend (suc k) (omega arith));
         unregistered = λ j l k u e.
@@ -71,6 +70,14 @@ module _ (places m : ℕ) (rg : List ℕ) (some : 0 < m) (fit : m ≤ places + 1
       -- It is below all that remain.
       pub taken-smallest : (j : ℕ) → j < m - 1 → recycledAt places rg 0 < recycledAt places (firstTaken places m rg) j
       taken-smallest j l = rw (taken-recycled j (omega arith)) (above-first m (recycledAt places rg) (rules .ascend) j (omega arith))
+
+    pub taken-keeps : (spaces : ℕ → ℕ) → RegistryRules places n m next spaces rg
+        → RegistryRules places n (m - 1) next spaces (firstTaken places m rg)
+    taken-keeps spaces rules = record {
+      registered = columns-registered places n rg (firstTaken places m rg) registered-fit taken-columns next (rules .registered);
+      recycled = taken-others (rules .recycled);
+      held = columns-held places n rg (firstTaken places m rg) registered-fit taken-columns spaces (rules .held);
+    }
 
 -- ---- recycling
 
@@ -183,7 +190,7 @@ module _ (places m id : ℕ) (rg : List ℕ) (room : m ≤ places) (long : 5 * p
   recycled-with-keeps n next spaces registered-fit rules positive issued fresh unrecycled =
       let old : RecycledRules places n m next rg = rules .recycled in
       record {
-        registered = columns-registered places n next rg joined registered-fit recycled-with-columns (rules .registered);
+        registered = columns-registered places n rg joined registered-fit recycled-with-columns next (rules .registered);
         recycled = record {
           ascend = still-ascend unrecycled (old .ascend);
           unregistered =
@@ -192,6 +199,5 @@ module _ (places m id : ℕ) (rg : List ℕ) (room : m ≤ places) (long : 5 * p
               (λ j l k u e. old .unregistered j l k u (e ∙ recycled-with-columns k (omega arith)));
           issued = each (λ x. (1 ≤ x) × (x < next)) (positive, issued) (old .issued);
         };
-        held = λ k l.
-            rw (recycled-with-columns k (omega arith), recycled-with-columns (2 * places + k) (omega arith)) (rules .held k l);
+        held = columns-held places n rg joined registered-fit recycled-with-columns spaces (rules .held);
       }

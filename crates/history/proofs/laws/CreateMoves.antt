@@ -17,9 +17,11 @@ use Rattle.space.proofs.laws.Insert.{Accepts}
 use Rattle.steps.specs.Replies.{Left}
 use Rattle.steps.specs.Steps.{spaceOf, insertStep, recycleStep, addStep}
 use Rattle.steps.specs.declared.Reply.{Reply}
+use Rattle.steps.proofs.laws.Ready.{ready-at}
+use Rattle.steps.proofs.laws.ReadyKept.{take-room}
 use Rattle.steps.proofs.laws.RegistrySteps.{register-step, recycle-step, add-step}
 use Rattle.steps.proofs.laws.SpaceSteps.{insert-step-kept}
-use Rattle.steps.proofs.laws.TakeStep.{take-step-kept, taken-room}
+use Rattle.steps.proofs.laws.TakeStep.{take-step-kept}
 use Rattle.table.specs.declared.CapabilityEntry.{CapabilityEntry}
 use Rattle.world.specs.Numbers.{numbersOf, createdWord, registeredOf}
 use Rattle.world.specs.Sound.{SoundAt, Sound}
@@ -62,7 +64,8 @@ module _ (mem : List ℕ) (sound : Sound mem) (s : ℕ) (inside : s < numbersOf 
     back : (k : create.Took mem t object valid cap-type rights) → Quiet (numbersOf mem) s mem (recycleStep (numbersOf mem) (k .id) taken)
     back k =
         quiet-trans d s mem taken _ took
-        (changed-quiet d s inside _ _ _ _ _ (recycle-step d taken taken-sound (k .id) (taken-room d mem sound (k .id) (k .is))))
+        (changed-quiet d s inside _ _ _ _ _
+        (recycle-step d taken taken-sound (k .id) (take-room d mem (ready-at d mem sound) (k .id) (k .is))))
 
     module _ (k : create.Took mem t object valid cap-type rights) (room : registeredOf mem < numbersOf mem .places) where
       -- its entry refused,

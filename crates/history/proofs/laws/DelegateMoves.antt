@@ -23,10 +23,12 @@ use Rattle.steps.specs.Steps.{spaceOf, lookupStep, insertStep, takeStep, object
 use Rattle.steps.specs.declared.Reply.{Reply}
 use Rattle.steps.proofs.laws.OnlyIds.{take-step}
 use Rattle.steps.proofs.laws.OnlySpace.{lookup-step, insert-step}
+use Rattle.steps.proofs.laws.Ready.{ready-at}
+use Rattle.steps.proofs.laws.ReadyKept.{take-room}
 use Rattle.steps.proofs.laws.RegistryChanged.{RegistryChanged}
 use Rattle.steps.proofs.laws.RegistrySteps.{register-step, list-step, list-step-kept, recycle-step, collect-step, collect-step-kept, add-step}
 use Rattle.steps.proofs.laws.SpaceSteps.{lookup-step-kept, insert-step-kept}
-use Rattle.steps.proofs.laws.TakeStep.{take-step-kept, taken-room}
+use Rattle.steps.proofs.laws.TakeStep.{take-step-kept}
 use Rattle.table.specs.declared.CapabilityEntry.{CapabilityEntry}
 use Rattle.token.specs.Token.{typeOf}
 use Rattle.world.specs.Numbers.{numbersOf, delegatedWord, registeredOf}
@@ -115,7 +117,7 @@ module _ (mem : List ℕ) (s : ℕ) (inside : s < numbersOf mem .spaces) (token 
   back : (t : delegate.Took mem token source target rights) → Quiet (numbersOf mem) s mem (delegate.back mem token source target rights t)
   back t =
       let came = taken (t .asked .granted) in
-      let room = taken-room d _ (base (t .asked .granted) .sound) (t .id) (t .is) in
+      let room = take-room d _ (ready-at d _ (base (t .asked .granted) .sound)) (t .id) (t .is) in
       quiet-trans d s mem _ _ (came .quiet) (changed-quiet d s inside _ _ _ _ _ (recycle-step d _ (came .sound) (t .id) room))
 
   -- ---- a good parent

@@ -19,9 +19,11 @@ use Rattle.registry.specs.Words.{idAt, revoked, childOf, children}
 use Rattle.steps.specs.Steps.{newEntry, insertStep, takenId, takeStep, placeIn, registerStep, listStep, unregisterStep, recycleStep, collectStep, childrenOf, addStep}
 use Rattle.steps.specs.declared.Taken.the-variants.{Id}
 use Rattle.steps.proofs.laws.Kept.{Kept, kept-refl, kept-trans}
+use Rattle.steps.proofs.laws.Ready.{ready-at}
+use Rattle.steps.proofs.laws.ReadyKept.{take-room}
 use Rattle.steps.proofs.laws.RegistrySteps.{register-step, register-step-kept, list-step, list-step-kept, recycle-step-kept, collect-step, collect-step-kept, add-step-kept, recycle-after-unregister}
 use Rattle.steps.proofs.laws.SpaceSteps.{lookup-step-kept, insert-step-kept}
-use Rattle.steps.proofs.laws.TakeStep.{Free, taken-free, taken-room}
+use Rattle.steps.proofs.laws.TakeStep.{Free, taken-free}
 use Rattle.table.specs.declared.CapabilityEntry.{CapabilityEntry}
 use Rattle.token.specs.Token.{idOf}
 use Rattle.world.specs.Numbers.{registeredOf, recycledOf}
@@ -87,7 +89,7 @@ module _ (d : Numbers) (mem : List ℕ) (id object link : ℕ) (reg : Registrati
 
 module _ (d : Numbers) (mem : List ℕ) (sound : SoundAt d mem) where
   pub taken-in-hand : (id : ℕ) → takenId d mem ≡ Id id → InHand d (takeStep d mem) id
-  taken-in-hand id is = record { free = taken-free d mem sound id is; room = taken-room d mem sound id is }
+  taken-in-hand id is = record { free = taken-free d mem sound id is; room = take-room d mem (ready-at d mem sound) id is }
 
   pub given-back : (id : ℕ) → InHand d mem id → Kept d mem (recycleStep d id mem)
   given-back id h = recycle-step-kept d mem sound id (h .room) (h .free)

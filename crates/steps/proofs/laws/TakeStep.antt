@@ -1,5 +1,4 @@
--- Taking an id keeps a sound memory, and the id taken is free: in 1..2^48-1, issued, not registered, and recycled no more. And there is
--- room to give it back.
+-- Taking an id keeps a sound memory, and the id taken is free: in 1..2^48-1, issued, not registered, and recycled no more.
 use mathlib.Core.Path.{_≡_, sym, ap, subst, _∙_}
 use mathlib.Core.Logic.{_≢_}
 use mathlib.Core.List.{List}
@@ -7,9 +6,8 @@ use Prim.Native.Nat.{ℕ, _+_, _-_, _*_, _^_, _≤_, _<_}
 use native.Mathlib.Omega.{arith}
 use lib.ListN.{length, set}
 use Rattle.registry.specs.Ids.{firstTaken}
-use Rattle.registry.specs.IdsLaws.{length-taken, taken-columns, taken-registered, taken-others, taken-unregistered, taken-smallest}
-use Rattle.registry.specs.Sound.{Held}
-use Rattle.registry.specs.Words.{idAt, stateAt, recycledAt}
+use Rattle.registry.specs.IdsLaws.{length-taken, taken-keeps, taken-unregistered, taken-smallest}
+use Rattle.registry.specs.Words.{idAt, recycledAt}
 use Rattle.world.specs.Numbers.{nextOf, registeredOf, recycledOf}
 use Rattle.world.specs.Regions.{registry, view, onRegion}
 use Rattle.world.specs.Sound.{ids, recycled, spacesWith, SoundAt}
@@ -18,8 +16,6 @@ use Rattle.world.specs.declared.Numbers.{Numbers}
 use Rattle.steps.specs.Steps.{takenId, takeStep}
 use Rattle.steps.specs.declared.Taken.the-variants.{Id}
 use Rattle.steps.proofs.laws.Kept.{Kept, kept-refl, registry-rules}
-use Rattle.steps.proofs.laws.Ready.{ready-at}
-use Rattle.steps.proofs.laws.ReadyKept.{take-room}
 use Rattle.steps.proofs.laws.RegistryChanged.{RegistryChanged, registry-changed, word-changed, changed-kept, recycled-changed-kept}
 use Rattle.steps.proofs.laws.Taking.{take-by-cases}
 
@@ -67,21 +63,11 @@ module _ (d : Numbers) (mem : List ℕ) (sound : SoundAt d mem) where
     same-next : nextOf after ≡ next
     same-next = one-less .same-word 5 (omega arith) (λ e. omega arith)
 
-    others-held : Held n (idAt left) (stateAt (d .places) left) (spacesWith d mem)
-    others-held k l =
-        let as-was = taken-columns (d .places) m rg some (sound .recycled-fit) long in
-        let below : k < d .places = omega (arith, sound .registered-fit) in
-        rw (as-was (2 * d .places + k) (omega arith), as-was k (omega arith)) (sound .held k l)
-
     recycled-kept : Kept d mem after
     recycled-kept =
-        let rules = registry-rules d mem sound in
         recycled-changed-kept d mem sound left (m - 1) after one-less (omega (arith, sound .recycled-fit))
-        (record {
-          registered = taken-registered (d .places) m rg some (sound .recycled-fit) long n next (sound .registered-fit) (rules .registered);
-          recycled = taken-others (d .places) m rg some (sound .recycled-fit) long n next (sound .registered-fit) (rules .recycled);
-          held = others-held;
-        })
+        (taken-keeps (d .places) m rg some (sound .recycled-fit) long n next (sound .registered-fit) (spacesWith d mem)
+        (registry-rules d mem sound))
 
     recycled-free : Free d after (recycled d mem 0)
     recycled-free =
@@ -162,6 +148,3 @@ module _ (d : Numbers) (mem : List ℕ) (sound : SoundAt d mem) where
       (λ some e. subst (Free d _) (cc) (recycled-free some))
       (λ none more e. subst (Free d _) (cc) (next-free more))
       (λ e. let z : _≡_ {A = ℕ} 0 1 = cc in absurd (omega arith))
-
-  pub taken-room : (i : ℕ) → takenId d mem ≡ Id i → recycledOf (takeStep d mem) ≤ d .places
-  taken-room = take-room d mem (ready-at d mem sound)
