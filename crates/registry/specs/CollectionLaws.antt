@@ -7,34 +7,26 @@ use mathlib.Core.List.{List}
 use Prim.Native.Nat.{ℕ, zero, suc, _+_, _-_, _*_, _<_, _≤_}
 use native.Mathlib.Decide.{ℕ-discrete}
 use native.Mathlib.Omega.{arith}
-use borrow.Author.Tests.{ltb-true, lt-ltb, eqb-true, eq-eqb, ne-eqb}
+use borrow.Author.Tests.{eqb-true, ne-eqb}
 use lib.Dec.{eqb}
 use lib.ListN.{length}
-use Rattle.base.specs.Below.{first}
 use Rattle.base.specs.Choose.{pick, both, both-left}
-use Rattle.base.specs.Distinct.{Differ}
-use Rattle.base.specs.Exactly.{same-test}
-use Rattle.base.specs.FirstLaws.{first-passes, first-le-of}
+use Rattle.base.specs.Distinct.{Differ, Among}
+use Rattle.base.specs.Exactly.{eqb-exactly, same-test}
+use Rattle.base.specs.FirstLaws.{first-some-exactly}
 use Rattle.registry.specs.Words.{idAt, objectAt, stateAt, linkAt, holders, childOf}
 use Rattle.registry.specs.Sound.{Linked}
 use Rattle.registry.specs.Holders.{placeOf}
 use Rattle.registry.specs.HoldersLaws.{place-holds, place-is}
 use Rattle.registry.specs.Registering.{unregistered, hasChild, unneeded, Collected, collectedBelow, collected}
 use Rattle.registry.specs.Rules.{RegistryRules}
-use Rattle.base.specs.Distinct.{Among}
 use Rattle.registry.specs.Without.{past, rank, past-below, past-le, past-cases, rank-cases, past-rank, rank-inside}
 use Rattle.registry.specs.RegisteringLaws.{SamePlaces, same-places-refl, same-places-trans, registered-among}
 use Rattle.registry.specs.UnregisteringLaws.{length-unregistered, unregistered-id, unregistered-before, unregistered-child, unregistered-linked, unregistered-keeps}
 
 -- Place k has a child exactly if it is named by one of the n links.
 has-child-exactly : (places n : ℕ) (rg : List ℕ) (k : ℕ) → (hasChild places n rg k ≡ true) ↔ Among n (linkAt places rg) (suc k)
-has-child-exactly places n rg k =
-    let named : ℕ → Bool = childOf (linkAt places rg) k in (
-      λ h.
-          let inside : first named n < n = ltb-true (first named n) n h in
-          (first named n, (inside, eqb-true (linkAt places rg (first named n)) (suc k) (first-passes named n inside))),
-      λ (i, (l, e)). lt-ltb (first named n) n (omega (arith, first-le-of named n i l (eq-eqb (linkAt places rg i) (suc k) e))),
-    )
+has-child-exactly places n rg k = simp eqb-exactly at (first-some-exactly (childOf (linkAt places rg) k) n)
 
 unneeded-child : (places p n : ℕ) (rg : List ℕ) (k : ℕ) → unneeded places p n rg k ≡ true → linkAt places rg k ≡ suc p
 unfolding unneeded

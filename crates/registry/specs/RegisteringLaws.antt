@@ -13,13 +13,13 @@ use lib.ListN.{length, getD, set, length-set}
 use lib.Seq.{getD-set-same, getD-set-other}
 use Rattle.base.specs.Below.{one}
 use Rattle.base.specs.Distinct.{Differ, Among}
-use Rattle.base.specs.FirstLaws.{first-le-of}
+use Rattle.base.specs.Exactly.{leb-exactly, eqb-exactly}
+use Rattle.base.specs.FirstLaws.{first-some-exactly}
 use Rattle.base.specs.SumLaws.{sum-const-zero}
 use Rattle.registry.specs.Words.{idAt, objectAt, stateAt, linkAt, recycledAt, revoked, hasList, holders, childOf, children}
 use Rattle.registry.specs.Sound.{Linked, Short}
 use Rattle.registry.specs.Counts.{children-more}
 use Rattle.registry.specs.Holders.{placeOf}
-use Rattle.registry.specs.HoldersLaws.{place-holds}
 use Rattle.registry.specs.Registering.{registered, withList, listGiven, unregistered}
 use Rattle.registry.specs.Rules.{RegisteredRules, RecycledRules, RegistryRules, Same, issued-same, ascend-same, children-same, cascaded-same}
 use Rattle.registry.specs.StatesOnly.{StatesOnly, ByAt, by-keeps, states-only-one, same-ids, same-links, states-only-registered, states-only-recycled}
@@ -51,10 +51,7 @@ same-places-trans places n n′ rg rg′ rg″ fewer h g = record {
 -- An id is registered exactly if it is one of the n.
 pub registered-among : (n : ℕ) (rg : List ℕ) (id : ℕ) → (placeOf n rg id < n) ↔ Among n (idAt rg) id
 unfolding placeOf
-registered-among n rg id = (
-  λ l. (placeOf n rg id, (l, place-holds n rg id l)),
-  λ (k, (l, e)). omega (arith, first-le-of (λ k. eqb (idAt rg k) id) n k l (eq-eqb (idAt rg k) id e)),
-)
+registered-among n rg id = simp (leb-exactly, eqb-exactly) at (first-some-exactly (λ k. eqb (idAt rg k) id) n)
 
 -- ---- registering
 
