@@ -7,7 +7,7 @@ use Rattle.registry.proofs.ids.take_first.Tie as tie
 
 returns : tie.Need-returns
 unfolding firstTaken
-returns c = (cc, rw add-zero)
+returns c = (c .before .before .shift-down .ensures, rw add-zero)
 
 pub take-first-spec : {M : Type 1} → statement M
 take-first-spec =
