@@ -8,8 +8,7 @@ use Prim.Native.Nat.{ℕ, _+_, _-_, _*_, _%_, _^_, _≤_, _<_}
 use native.Mathlib.Decide.{ℕ-discrete}
 use native.Mathlib.Omega.{arith}
 use lib.Dec.{eqb}
-use lib.ListN.{length, getD, set, length-set}
-use lib.Seq.{getD-set-same, getD-set-other}
+use lib.ListN.{length, getD, set}
 use Rattle.answers.specs.Number.{numberOf}
 use Rattle.base.specs.Choose.{pick}
 use Rattle.registry.specs.CollectionLaws.{collects}
@@ -30,14 +29,14 @@ use Rattle.table.specs.declared.CapabilityEntry.{CapabilityEntry}
 use Rattle.world.specs.Numbers.{nextOf, registeredOf, recycledOf}
 use Rattle.world.specs.Regions.{space, registry, view, onRegion}
 use Rattle.world.specs.Sound.{recycled}
-use Rattle.world.specs.Views.{Change, length-kept, view-same, view-other, head-kept, registry-words}
+use Rattle.world.specs.Views.{Change, length-kept, view-same, head-kept, registry-words}
 use Rattle.world.specs.declared.Numbers.{Numbers}
 use Rattle.steps.specs.Ready.{Ready}
 use Rattle.steps.specs.Steps.{spaceOf, isEntry, lookupStep, nextStep, holdStep, releaseStep, holdAllStep, releaseAllStep, insertStep, removeStep, clearStep, copyStep, takenId, takeStep, registerStep, listStep, unregisterStep, recycleStep, collectStep, addStep}
 use Rattle.steps.specs.declared.Taken.{Taken}
 use Rattle.steps.specs.declared.Taken.the-variants.{Id, Exhausted}
 use Rattle.steps.proofs.ChangingEntries.{still-fits}
-use Rattle.steps.proofs.laws.Kept.{set-view}
+use Rattle.steps.proofs.laws.RegistryChanged.{RegistryChanged, registry-changed, word-changed, only-registry-changed}
 use Rattle.steps.proofs.laws.SpaceChanged.{other-space}
 use Rattle.steps.proofs.laws.Taking.{take-by-cases}
 
@@ -89,54 +88,49 @@ module _ (d : Numbers) (mem : List ℕ) (ready : Ready d mem) where
         head = same;
       }
 
-  -- the registry does,
+  -- or the registry and a word of the head, in range where it is a count.
+  changed-leaves :
+      (rg : List ℕ) (i v : ℕ) (after : List ℕ) → RegistryChanged d rg i v mem after → (i ≡ 11 → v ≤ d .places)
+      → (i ≡ 12 → v ≤ d .places + 1) → Leaves d i v mem after
+  changed-leaves rg i v after changed registered recycled = record {
+    ready =
+        again after (changed .apart .same-length) (still-few 11 (d .places) (omega arith) registered (ready .registered-fit))
+        (still-few 12 (d .places + 1) (omega arith) recycled (ready .recycled-fit))
+        (λ s l. rw (changed .same-space s l) (ready .spaces s l));
+    word = changed .new-word;
+    others = changed .same-word;
+  }
+    where
+      still-few : (j most : ℕ) → j < 16 → (i ≡ j → v ≤ most) → getD mem j 0 ≤ most → getD after j 0 ≤ most
+      still-few j most l new old =
+          by-cases (ℕ-discrete j i)
+          (λ here. rw (here, changed .new-word) (new (sym here)))
+          (λ other. rw (changed .same-word j l other) old)
+
+  pub registry-and-word-leaves :
+      (f : List ℕ → List ℕ) → length (f (view d registry mem)) ≡ length (view d registry mem) → (i v : ℕ) → 5 ≤ i → i < 13
+      → (i ≡ 11 → v ≤ d .places) → (i ≡ 12 → v ≤ d .places + 1) → Leaves d i v mem (set (onRegion d registry f mem) i v)
+  registry-and-word-leaves f kept i v low high =
+      changed-leaves _ i v _ (registry-changed d mem (ready .fits .long-enough) f i v low high kept)
+
+  -- Only the word,
+  pub word-leaves : (i v : ℕ) → 5 ≤ i → i < 11 → Leaves d i v mem (set mem i v)
+  word-leaves i v low high =
+      changed-leaves _ i v _ (word-changed d mem (ready .fits .long-enough) i v low (omega arith)) (λ e. omega arith) (λ e. omega arith)
+
+  -- or only the registry.
   pub registry-stays :
       (f : List ℕ → List ℕ) → length (f (view d registry mem)) ≡ length (view d registry mem) → Stays d mem (onRegion d registry f mem)
   registry-stays f kept =
-      let ch : Change d registry f mem = record { valid = tt; long = ready .fits .long-enough; kept = kept } in
-      let same : (i : ℕ) → i < 16 → getD (onRegion d registry f mem) i 0 ≡ getD mem i 0 = head-kept d registry f mem ch refl in
+      let changed = only-registry-changed d mem (ready .fits .long-enough) f kept in
       record {
-        ready =
-            again (onRegion d registry f mem) (length-kept d registry f mem ch)
-            (omega (arith, same 11 (omega arith), ready .registered-fit))
-            (omega (arith, same 12 (omega arith), ready .recycled-fit))
-            (λ k l. rw (view-other d registry f mem ch (space k) l refl) (ready .spaces k l));
-        head = same;
+        ready = changed-leaves _ 12 (recycledOf mem) _ changed (λ e. omega arith) (λ e. ready .recycled-fit) .ready;
+        head = λ i l. by-cases (ℕ-discrete i 12) (λ here. rw here (changed .new-word)) (λ other. changed .same-word i l other);
       }
-
-  -- or a word of the head, in range where it is a count.
-  module _ (i v : ℕ) (inside : i < 16) (registered : i ≡ 11 → v ≤ d .places) (recycled : i ≡ 12 → v ≤ d .places + 1) where
-    new-word : getD (set mem i v) i 0 ≡ v
-    new-word = getD-set-same mem i v 0 (omega (arith, ready .head))
-
-    still-few : (j most : ℕ) → (i ≡ j → v ≤ most) → getD mem j 0 ≤ most → getD (set mem i v) j 0 ≤ most
-    still-few j most new old =
-        by-cases (ℕ-discrete j i)
-        (λ here. rw (here, new-word) (new (sym here)))
-        (λ other. rw (getD-set-other mem i j v 0 other) old)
-
-    pub word-leaves : Leaves d i v mem (set mem i v)
-    word-leaves = record {
-      ready =
-          again (set mem i v) (length-set mem i v) (still-few 11 (d .places) registered (ready .registered-fit))
-          (still-few 12 (d .places + 1) recycled (ready .recycled-fit))
-          (λ k l. rw (set-view d mem (ready .fits .long-enough) i v inside (space k) l refl) (ready .spaces k l));
-      word = new-word;
-      others = λ j l other. getD-set-other mem i j v 0 other;
-    }
 
 -- ---- two changes
 
 module _ (d : Numbers) (mem : List ℕ) (ready : Ready d mem) where
-  -- The registry, and a word of the head after it.
-  pub registry-and-word-leaves :
-      (f : List ℕ → List ℕ) → length (f (view d registry mem)) ≡ length (view d registry mem) → (i v : ℕ) → i < 16
-      → (i ≡ 11 → v ≤ d .places) → (i ≡ 12 → v ≤ d .places + 1) → Leaves d i v mem (set (onRegion d registry f mem) i v)
-  registry-and-word-leaves f kept i v inside registered recycled =
-      let between = registry-stays d mem ready f kept in
-      let after = word-leaves d (onRegion d registry f mem) (between .ready) i v inside registered recycled in
-      record { ready = after .ready; word = after .word; others = λ j l other. after .others j l other ∙ between .head j l }
-
   -- Holders, after what left the memory as `mid`.
   holders-stay :
       (mid : List ℕ) (g : List ℕ → List ℕ) → Stays d mem mid
@@ -242,7 +236,7 @@ module _ (d : Numbers) (mem : List ℕ) (ready : Ready d mem) where
   again-taken some =
       let leaves =
       registry-and-word-leaves d mem ready (firstTaken (d .places) m) (length-taken (d .places) m rg some (ready .recycled-fit) long)
-      12 (m - 1) (omega arith) (λ e. omega arith) (λ e. omega (arith, ready .recycled-fit)) in
+      12 (m - 1) (omega arith) (omega arith) (λ e. omega arith) (λ e. omega (arith, ready .recycled-fit)) in
       record {
         ready = leaves .ready;
         others = λ j l not-next not-recycled. leaves .others j l not-recycled;
@@ -251,7 +245,7 @@ module _ (d : Numbers) (mem : List ℕ) (ready : Ready d mem) where
 
   next-taken : m ≤ 0 → Takes d mem (Id (nextOf mem)) (set mem 5 (nextOf mem + 1))
   next-taken none =
-      let leaves = word-leaves d mem ready 5 (nextOf mem + 1) (omega arith) (λ e. omega arith) (λ e. omega arith) in
+      let leaves = word-leaves d mem ready 5 (nextOf mem + 1) (omega arith) (omega arith) in
       record {
         ready = leaves .ready;
         others = λ j l not-next not-recycled. leaves .others j l not-next;
@@ -281,7 +275,8 @@ module _ (d : Numbers) (mem : List ℕ) (ready : Ready d mem) where
     unfolding registerStep
     register-leaves =
         registry-and-word-leaves d mem ready (registered (d .places) n id object link)
-        (length-registered (d .places) n id object link rg room long) 11 (n + 1) (omega arith) (λ e. omega arith) (λ e. omega arith)
+        (length-registered (d .places) n id object link rg room long) 11 (n + 1) (omega arith) (omega arith) (λ e. omega arith)
+        (λ e. omega arith)
 
   module _ (p : ℕ) (inside : p < d .places) where
     pub list-stays : Stays d mem (listStep d p mem)
@@ -293,7 +288,7 @@ module _ (d : Numbers) (mem : List ℕ) (ready : Ready d mem) where
     unfolding unregisterStep
     unregister-leaves =
         registry-and-word-leaves d mem ready (unregistered (d .places) n k)
-        (length-unregistered (d .places) n k rg inside (ready .registered-fit) long) 11 (n - 1) (omega arith)
+        (length-unregistered (d .places) n k rg inside (ready .registered-fit) long) 11 (n - 1) (omega arith) (omega arith)
         (λ e. omega (arith, ready .registered-fit)) (λ e. omega arith)
 
   module _ (id : ℕ) (room : recycledOf mem ≤ d .places) where
@@ -301,7 +296,7 @@ module _ (d : Numbers) (mem : List ℕ) (ready : Ready d mem) where
     unfolding recycleStep
     recycle-leaves =
         registry-and-word-leaves d mem ready (recycledWith (d .places) m id) (length-recycled-with (d .places) m id rg room long)
-        12 (m + 1) (omega arith) (λ e. omega arith) (λ e. omega arith)
+        12 (m + 1) (omega arith) (omega arith) (λ e. omega arith) (λ e. omega arith)
 
   module _ (p : ℕ) where
     -- No more are left than there were; p need not be registered.
@@ -310,11 +305,12 @@ module _ (d : Numbers) (mem : List ℕ) (ready : Ready d mem) where
     collect-leaves =
         let whole = collects (d .places) p n n rg (omega arith) (ready .registered-fit) long in
         registry-and-word-leaves d mem ready (λ rg. collected (d .places) p n rg .words) (whole .same-length)
-        11 (collected (d .places) p n rg .left) (omega arith) (λ e. omega (arith, whole .fewer, ready .registered-fit)) (λ e. omega arith)
+        11 (collected (d .places) p n rg .left) (omega arith) (omega arith) (λ e. omega (arith, whole .fewer, ready .registered-fit))
+        (λ e. omega arith)
 
     pub ready-collect : Ready d (collectStep d p mem)
     ready-collect = collect-leaves .ready
 
   pub add-leaves : (i k : ℕ) → 6 ≤ i → i < 11 → Leaves d i ((getD mem i 0 + k) % 2 ^ 64) mem (addStep i k mem)
   unfolding addStep
-  add-leaves i k low high = word-leaves d mem ready i _ (omega arith) (λ e. omega arith) (λ e. omega arith)
+  add-leaves i k low high = word-leaves d mem ready i _ (omega arith) high
