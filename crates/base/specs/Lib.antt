@@ -8,6 +8,7 @@ pub mod LastLaws
 pub mod SumLaws
 pub mod Around
 pub mod Part
+pub mod Rest
 pub mod Shift
 pub mod Written
 pub mod Arith

@@ -5,7 +5,8 @@ use Prim.Native.Nat.{ℕ, _+_, _-_, _<_, _≤_}
 use native.Mathlib.Numerals.{add-one}
 use native.Mathlib.Omega.{arith}
 use lib.ListN.{length, getD, set, take, drop, length-append, length-take, length-drop, take-append-drop, drop-of-length-le, List·getD-append}
-use lib.Seq.{length-take-le, take-suc, drop-cons, take-suc-set, set-split, drop-append-le, drop-at, take-set-le, take-set-lt, drop-set-lt, getD-append-add, getD-take, getD-drop}
+use lib.Seq.{length-take-le, take-suc, take-suc-set, set-split, drop-append-le, drop-at, take-set-le, take-set-lt, drop-set-lt, getD-append-add, getD-take, getD-drop}
+use Rattle.base.specs.Rest.{drop-next}
 
 -- The words from place `from` up to `end` stand from place `to` on; every other place is as it was.
 unfoldable pub moved : ℕ → ℕ → ℕ → List ℕ → List ℕ
@@ -113,7 +114,7 @@ unfolding moved
 moved-first to from end v xs h l m fits =
     let more : from < length (take end xs) = rw length-take (omega arith) in
     let done : take (to + 1) (set xs to v) ≡ take to xs ++ (v ∷ []) = rw add-one (take-suc-set xs to v (omega arith)) in
-    let next : drop from (take end xs) ≡ v ∷ drop (from + 1) (take end xs) = rw (add-one, drop-cons (take end xs) from 0, getD-take, h) in
+    let next : drop from (take end xs) ≡ v ∷ drop (from + 1) (take end xs) = rw (drop-next (take end xs) from more, getD-take, h) in
     let place : to + 1 + (end - (from + 1)) ≡ to + (end - from) = omega arith in
     rw (
       done,

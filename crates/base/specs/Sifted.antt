@@ -7,8 +7,9 @@ use Prim.Native.Nat.{ℕ, _+_, _-_, _<_, _≤_}
 use native.Mathlib.Numerals.{add-one}
 use native.Mathlib.Omega.{arith}
 use lib.ListN.{length, getD, set, take, drop, length-set, drop-of-length-le}
-use lib.Seq.{length-take-le, getD-take, getD-drop, drop-cons, drop-drop, drop-set-lt, take-suc-set}
+use lib.Seq.{length-take-le, getD-take, getD-drop, drop-drop, drop-set-lt, take-suc-set}
 use Rattle.base.specs.Choose.{pick}
+use Rattle.base.specs.Rest.{drop-next}
 use Rattle.base.specs.Members.{In, Once, in-cons, once-with, once-later, once-first}
 
 unfoldable pub sifted : (ℕ → Bool) → List ℕ → List ℕ
@@ -100,7 +101,7 @@ module _ (p : ℕ → Bool) (xs₀ : List ℕ) (count : ℕ) (xs : List ℕ) (ke
     next : drop j (take count xs₀) ≡ getD xs j 0 ∷ drop (j + 1) (take count xs₀)
     next =
         let more : j < length (take count xs₀) = rw (length-take-le count xs₀ (sifting .fits)) l in
-        rw (add-one, sift-here, ← getD-take count xs₀ j 0 l) (drop-cons (take count xs₀) j 0 more)
+        rw (sift-here, ← getD-take count xs₀ j 0 l) (drop-next (take count xs₀) j more)
 
     pub sift-passes : p (getD xs j 0) ≡ false → Sifting p xs₀ count xs kept (j + 1)
     unfolding sifted

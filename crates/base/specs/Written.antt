@@ -6,7 +6,8 @@ use native.Mathlib.Nat.{zero-add}
 use native.Mathlib.Numerals.{add-one}
 use native.Mathlib.Omega.{arith}
 use lib.ListN.{length, getD, set, take, drop, length-append, length-set, length-drop, drop-of-length-le, List·getD-append}
-use lib.Seq.{sets, sets-eq, drop-cons, take-append-seam, drop-append-seam, getD-append-add, getD-drop}
+use lib.Seq.{sets, sets-eq, take-append-seam, drop-append-seam, getD-append-add, getD-drop}
+use Rattle.base.specs.Rest.{drop-next}
 
 unfoldable pub written : List ℕ → List ℕ → List ℕ
 written xs area = xs ++ drop (length xs) area
@@ -55,7 +56,7 @@ module _ (xs area₀ answer area : List ℕ) (i j : ℕ) (writing : Writing xs a
   write-goes l = record {
     inside = omega arith;
     same = length-set area i (getD xs j 0) ∙ writing .same;
-    left = rw (add-one i, add-one j) (rw (drop-cons xs j 0 l) at (writing .left));
+    left = rw (add-one i) (rw (drop-next xs j l) at (writing .left));
   }
 
   pub write-ends : length xs ≤ j → area ≡ answer

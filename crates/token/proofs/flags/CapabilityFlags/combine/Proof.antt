@@ -3,12 +3,11 @@
 use Prim.Native.Nat.{ℕ, _+_, _-_, _^_, _≤_, _<_}
 use mathlib.Core.List.{List}
 use mathlib.Core.Path.{_≡_, refl}
-use native.Mathlib.Numerals.{add-one}
 use borrow.Author.Needs.{needs}
 use lib.Bits.{bitOr, or-zero-r}
 use lib.ListN.{length, getD, drop, drop-of-length-le}
-use lib.Seq.{drop-cons}
 use Rattle.base.specs.Choose.{pick}
+use Rattle.base.specs.Rest.{drop-next}
 use Rattle.answers.specs.declared.Answer.{Answer}
 use Rattle.answers.specs.declared.Answer.the-variants.{BadField}
 use Rattle.token.specs.declared.flags.CapabilityFlags.{CapabilityFlags}
@@ -36,7 +35,7 @@ goes : (ns : List ℕ) (flags i n : ℕ) (r : Combined) (found : Named) (perm : 
 unfolding from
 goes ns flags i n r found perm h told is-flag number left =
     let e : named (getD ns i 0) ≡ Flag perm = cc in
-    rw (add-one, or-assoc, number, ← named-by-its-number (getD ns i 0) perm e) (rw (drop-cons ns i 0 h, e) at left)
+    rw (or-assoc, number, ← named-by-its-number (getD ns i 0) perm e) (rw (drop-next ns i h, e) at left)
 
 refuses : (ns : List ℕ) (flags i : ℕ) (r : Combined) (found : Named) (answer : Answer)
     → i < length ns → found ≡ named (getD ns i 0) → found ≡ Named.Refused answer
@@ -44,7 +43,7 @@ refuses : (ns : List ℕ) (flags i : ℕ) (r : Combined) (found : Named) (answer
 unfolding from
 refuses ns flags i r found answer h told is-refused left =
     let e : named (getD ns i 0) ≡ Named.Refused answer = cc in
-    rw (drop-cons ns i 0 h, e) at left
+    rw (drop-next ns i h, e) at left
 
 ends : (ns : List ℕ) (flags i : ℕ) (r : Combined) → length ns ≤ i → from flags (drop i ns) ≡ r → Flags flags ≡ r
 unfolding from
