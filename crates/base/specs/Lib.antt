@@ -9,6 +9,7 @@ pub mod SumLaws
 pub mod Around
 pub mod Part
 pub mod Rest
+pub mod Stores
 pub mod Shift
 pub mod Written
 pub mod Arith

@@ -1,13 +1,14 @@
 -- Laws of a queue, notice by notice: a new one is the last, the others keep their order, and a sound queue stays sound.
 use mathlib.Core.Path.{_≡_, ap, _∙_}
-use mathlib.Core.Logic.{_≢_, by-cases}
+use mathlib.Core.Logic.{_≢_, _⊎_, inl, inr, ⊎-elim, by-cases}
 use mathlib.Core.List.{List}
 use Prim.Native.Nat.{ℕ, _+_, _*_, _%_, _<_, _≤_}
-use native.Mathlib.Decide.{ℕ-discrete, decLt}
+use native.Mathlib.Decide.{decLt}
 use native.Mathlib.Omega.{arith}
 use borrow.Author.Tests.{lt-ltb, le-ltb}
 use lib.ListN.{length, getD, set, length-set}
 use lib.Seq.{getD-set-same, getD-set-other}
+use Rattle.base.specs.Stores.{stores}
 use Rattle.revocation.specs.Words.{pidOf, firstOf, lengthOf, ringAt, reasonAt}
 use Rattle.revocation.specs.Queue.{noticeSet, pushed, begun, freed}
 use Rattle.revocation.specs.Sound.{SoundQueue}
@@ -50,10 +51,7 @@ length-freed qu = length-set qu 2 0
 module _ (k id time reason : ℕ) (qu : List ℕ) where
   -- Every other word is as it was,
   set-apart : (j : ℕ) → j ≢ 3 + 3 * k → j ≢ 3 + 3 * k + 1 → j ≢ 3 + 3 * k + 2 → getD (noticeSet k id time reason qu) j 0 ≡ getD qu j 0
-  set-apart j first second third =
-      getD-set-other (set (set qu (3 + 3 * k) id) (3 + 3 * k + 1) time) (3 + 3 * k + 2) j reason 0 third
-      ∙ getD-set-other (set qu (3 + 3 * k) id) (3 + 3 * k + 1) j time 0 second
-      ∙ getD-set-other qu (3 + 3 * k) j id 0 first
+  set-apart j first second third = simp getD-set-other
 
   set-head : (j : ℕ) → j < 3 → getD (noticeSet k id time reason qu) j 0 ≡ getD qu j 0
   set-head j l = set-apart j (λ e. omega arith) (λ e. omega arith) (λ e. omega arith)
@@ -69,18 +67,14 @@ module _ (k id time reason : ℕ) (qu : List ℕ) where
 
   set-here : k < 256 → 771 ≤ length qu → ringNotice (noticeSet k id time reason qu) k ≡ notice id time reason
   set-here inside long =
-      let one : List ℕ = set qu (3 + 3 * k) id in
-      let two : List ℕ = set one (3 + 3 * k + 1) time in
-      let the-id : getD (set two (3 + 3 * k + 2) reason) (3 + 3 * k) 0 ≡ id =
-      getD-set-other two (3 + 3 * k + 2) (3 + 3 * k) reason 0 (λ e. omega arith)
-      ∙ getD-set-other one (3 + 3 * k + 1) (3 + 3 * k) time 0 (λ e. omega arith)
-      ∙ getD-set-same qu (3 + 3 * k) id 0 (omega arith) in
-      let the-time : getD (set two (3 + 3 * k + 2) reason) (3 + 3 * k + 1) 0 ≡ time =
-      getD-set-other two (3 + 3 * k + 2) (3 + 3 * k + 1) reason 0 (λ e. omega arith)
-      ∙ getD-set-same one (3 + 3 * k + 1) time 0 (rw length-set (omega arith)) in
-      let the-reason : getD (set two (3 + 3 * k + 2) reason) (3 + 3 * k + 2) 0 ≡ reason =
-      getD-set-same two (3 + 3 * k + 2) reason 0 (simp length-set (omega arith)) in
-      rw (the-id, the-time, the-reason)
+      let at : ℕ = 3 + 3 * k in
+      let d1 : at ≢ at + 1 = omega arith in
+      let d2 : at ≢ at + 2 = omega arith in
+      let d3 : at + 1 ≢ at + 2 = omega arith in
+      let l1 : at < length qu = omega arith in
+      let l2 : at + 1 < length qu = omega arith in
+      let l3 : at + 2 < length qu = omega arith in
+      simp stores
 
 -- A word before the ring is no notice's.
 head-apart : (qu : List ℕ) (j v k : ℕ) → j < 3 → ringNotice (set qu j v) k ≡ ringNotice qu k
@@ -181,6 +175,20 @@ module _ (id time reason : ℕ) (qu : List ℕ) (long : 771 ≤ length qu) (code
         (λ room. omega (arith, length-grows room))
         (λ full. omega (arith, length-stays (omega arith)))
 
+    -- Each notice is the new one, or one that the queue had: so is its reason.
+    reason-pushed :
+        (i : ℕ) → i < lengthOf (pushed id time reason qu)
+        → (reasonAt (pushed id time reason qu) i ≡ reason)
+        ⊎ ((j : ℕ) × ((j < lengthOf qu) × (reasonAt (pushed id time reason qu) i ≡ reasonAt qu j)))
+    reason-pushed i l =
+        let said : Notice → ℕ = λ n. n .reason in
+        by-cases (decLt (lengthOf qu) 256)
+        (λ room. by-cases (decLt i (lengthOf qu)) (λ u. inr (i, (u, ap said (notice-stays room i u)))) (λ u.
+        let last : i ≡ lengthOf qu = omega (arith, length-grows room) in inl (rw last (ap said (newest-behind room)))))
+        (λ more. let full : lengthOf qu ≡ 256 = omega arith in
+        by-cases (decLt i 255) (λ u. inr (i + 1, (omega arith, ap said (notice-moves full i u)))) (λ u.
+        let last : i ≡ 255 = omega (arith, length-stays full) in inl (rw last (ap said (newest-over full)))))
+
 -- ---- a queue begins, and ends
 
 module _ (pid id time reason : ℕ) (qu : List ℕ) (long : 771 ≤ length qu) where
@@ -238,27 +246,11 @@ begun-sound pid id time reason qu long listed =
 
 pub pushed-sound : (id time reason : ℕ) (qu : List ℕ) → 771 ≤ length qu → reason ≤ 3 → SoundQueue qu → SoundQueue (pushed id time reason qu)
 pushed-sound id time reason qu long listed sound = record {
-  coded-first = first-pushed id time reason qu long coded (sound .short);
-  short = short-pushed id time reason qu long coded (sound .short);
-  coded-reasons = by-cases (decLt (lengthOf qu) 256) with-room (λ full. without-room (omega (arith, sound .short)));
+  coded-first = first-pushed id time reason qu long (sound .coded-first) (sound .short);
+  short = short-pushed id time reason qu long (sound .coded-first) (sound .short);
+  coded-reasons = λ i l.
+      ⊎-elim
+      (λ new. omega arith)
+      (λ (j, (inside, old)). omega (arith, sound .coded-reasons j inside))
+      (reason-pushed id time reason qu long (sound .coded-first) (sound .short) i l);
 }
-  where
-    coded : firstOf qu < 256
-    coded = sound .coded-first
-
-    with-room : lengthOf qu < 256 → (i : ℕ) → i < lengthOf (pushed id time reason qu) → reasonAt (pushed id time reason qu) i ≤ 3
-    with-room room i l =
-        by-cases (ℕ-discrete i (lengthOf qu))
-        (λ last. rw (last, ap (λ n. n .reason) (newest-behind id time reason qu long coded room)) listed)
-        (λ other.
-        let before : i < lengthOf qu = omega (arith, length-grows id time reason qu long coded room) in
-        rw (ap (λ n. n .reason) (notice-stays id time reason qu long coded room i before)) (sound .coded-reasons i before))
-
-    without-room : lengthOf qu ≡ 256 → (i : ℕ) → i < lengthOf (pushed id time reason qu) → reasonAt (pushed id time reason qu) i ≤ 3
-    without-room full i l =
-        by-cases (ℕ-discrete i 255)
-        (λ last. rw (last, ap (λ n. n .reason) (newest-over id time reason qu long coded full)) listed)
-        (λ other.
-        let before : i < 255 = omega (arith, length-stays id time reason qu long coded full) in
-        rw (ap (λ n. n .reason) (notice-moves id time reason qu long coded full i before))
-        (sound .coded-reasons (i + 1) (omega (arith, full))))

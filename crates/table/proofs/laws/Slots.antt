@@ -8,7 +8,8 @@ use Prim.Native.Nat.{ℕ, _+_, _*_, _/_, _%_, _^_, _<_}
 use native.Mathlib.Omega.{arith}
 use lib.Dec.{eqb}
 use lib.ListN.{length, getD, set, length-set}
-use lib.Seq.{getD-set-same, getD-set-other, lt-length-set}
+use lib.Seq.{getD-set-same, getD-set-other}
+use Rattle.base.specs.Stores.{stores}
 use Rattle.token.specs.Token.{idOf as tokenId}
 use Rattle.table.specs.Slots.{kindAt, isEmpty, isRemoved, isLive, idAt, idOf, entryAt, putEntry, putMark}
 use Rattle.table.specs.declared.CapabilityEntry.{CapabilityEntry}
@@ -67,8 +68,6 @@ entry-others ws i j e d =
       uses = entry-word ws i (4 * j + 2) e (omega arith);
       tag = entry-word ws i (4 * j + 3) e (omega arith);
     }
-
-ruleset stores = (getD-set-other, getD-set-same, lt-length-set)
 
 module _ (ws : List ℕ) (i : ℕ) (e : CapabilityEntry) (fits : 4 * i + 3 < length ws) where
   entry-token : getD (putEntry ws i e) (4 * i) 0 ≡ e .capability .0
