@@ -24,17 +24,7 @@ module _ (id time reason : ℕ) (qu after : List ℕ) where
 pub push-spec : {M : Type 1} → statement M
 push-spec =
     tie.close
-    (tie.spec
-    (λ c. search needs)
-    (λ c. search needs)
-    (λ c. search needs)
-    (λ c κs. search needs)
-    (λ c. search needs)
-    (λ c. search needs)
-    (λ c. search needs)
-    (λ c. behind _ _ _ _ _ (c .before .before .set-notice .ensures) (c .before .before .before .before .if1 .taken))
-    (λ c κs. search needs)
-    (λ c. search needs)
-    (λ c. search needs)
-    (λ c. search needs)
+    (tie.spec (λ c. search needs) (λ c. search needs) (λ c. search needs) (λ c κs. search needs) (λ c. search needs) (λ c. search needs)
+    (λ c. search needs) (λ c. behind _ _ _ _ _ (c .before .before .set-notice .ensures) (c .before .before .before .before .if1 .taken))
+    (λ c κs. search needs) (λ c. search needs) (λ c. search needs) (λ c. search needs)
     (λ c. over _ _ _ _ _ (c .before .before .set-notice2 .ensures) (c .before .before .before .before .if1 .left)))
