@@ -28,7 +28,7 @@ fn bucket(n: usize, word: u64) -> usize
 }
 
 // A place as an index.
-fn wide(place: u16) -> usize
+pub fn wide(place: u16) -> usize
     ensures { λ r. ⌜ r ≡ place ⌝ }
 {
     place as usize

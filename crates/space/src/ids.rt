@@ -2,19 +2,10 @@
 ghost use mathlib.Core.Path.{_≡_};
 ghost use Prim.Native.Nat.{_≤_};
 ghost use lib.ListN.{length, take};
-ghost use Rattle.table.specs.Slots.{idOf};
 ghost use Rattle.space.specs.Words.{InRange};
 ghost use Rattle.space.specs.Ids.{entryIds};
 use super::words::table_capacity;
-use table::CapabilityEntry;
 use table::Slot;
-
-fn id_of(entry: CapabilityEntry) -> u64
-    ensures { λ r. ⌜ r ≡ idOf entry ⌝ }
-{
-    let capability = entry.capability;
-    capability.0 % 0x1_0000_0000_0000
-}
 
 // The ids of the entries, in slot order, to the front of `ids`; the answer is how many there are.
 pub fn entry_ids(sp: &[u64], ids: &mut [u64]) -> usize
@@ -29,7 +20,7 @@ pub fn entry_ids(sp: &[u64], ids: &mut [u64]) -> usize
             i += 1;
             continue;
         };
-        ids[count] = id_of(entry);
+        ids[count] = table::id_of(entry);
         count += 1;
         i += 1;
     }

@@ -15,7 +15,7 @@ use super::words::kind_at;
 use super::words::put_entry;
 use super::words::slot_at;
 
-fn id_of(entry: CapabilityEntry) -> u64
+pub fn id_of(entry: CapabilityEntry) -> u64
     ensures { λ r. ⌜ r ≡ idOf entry ⌝ }
 {
     let capability = entry.capability;

@@ -12,6 +12,7 @@ mod words;
 pub use copy::copy_from;
 pub use copy::nth_entry;
 pub use insert::gather;
+pub use insert::id_of;
 pub use insert::insert_new;
 pub use insert::slots_for;
 pub use remove::remove_at;

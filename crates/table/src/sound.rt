@@ -15,6 +15,7 @@ use super::insert::slots_for;
 use super::walk::find;
 use super::words::id_at;
 use super::words::kind_at;
+use base::distinct::wide;
 
 // 0 slots or a power of two from 8 to the most that there can be.
 fn is_capacity(slots: usize, most: usize) -> bool
@@ -119,13 +120,6 @@ fn kinds_sound(words: &[u64], t: CapTable, live: &mut [u16; 512]) -> bool
         return false;
     }
     removed == t.tombstones
-}
-
-// A place as an index.
-fn wide(place: u16) -> usize
-    ensures { λ r. ⌜ r ≡ place ⌝ }
-{
-    place as usize
 }
 
 // The search of the id in each of these slots ends at that slot.

@@ -1,10 +1,10 @@
 // Opening a world: document 01's tests of the numbers, the quotas and the length, and the words of an empty world.
 ghost use mathlib.Core.Path.{_≡_};
-ghost use mathlib.Core.List.{_++_};
 ghost use Prim.Native.Nat.{_≤_, _<_};
 ghost use lib.Dec.{leb};
-ghost use lib.ListN.{length, getD, drop};
+ghost use lib.ListN.{length, getD};
 ghost use Rattle.base.specs.Below.{all};
+ghost use Rattle.base.specs.Written.{written};
 ghost use Rattle.world.specs.Numbers.{InRange};
 ghost use Rattle.world.specs.Open.{openHead, openSpace, openSpaces, openQueues, opened, recordTest, opening};
 ghost use Rattle.world.specs.Regions.{head, space, lengthFor, onRegion};
@@ -19,7 +19,7 @@ use answers::Answer;
 // Writes the words at the front of the slice.
 fn put_words(dst: &mut [u64], words: &[u64])
     requires { ⌜ length (now words) ≤ length (now dst) ⌝ }
-    ensures { λ r. ⌜ now (dst .exit) ≡ now (words .entry) ++ drop (length (now (words .entry))) (now (dst .entry)) ⌝ }
+    ensures { λ r. ⌜ now (dst .exit) ≡ written (now (words .entry)) (now (dst .entry)) ⌝ }
 {
     let mut i = 0;
     while i < words.len() {

@@ -11,7 +11,6 @@ use Rattle.table.specs.Insert.{holds, gathered}
 use Rattle.table.specs.Copy.{fresh}
 use Rattle.table.specs.declared.CapabilityEntry.{CapabilityEntry}
 use Rattle.table.specs.declared.Got.{Got}
-use Rattle.table.specs.declared.Got.the-variants.{Entry, Nothing}
 use Rattle.table.proofs.laws.Scratch.{gathered-count}
 use Rattle.table.proofs.laws.Contents.{HoldsAs}
 use Rattle.table.proofs.laws.Copy.{copy-holds-fresh-entries, gathered-copied}
@@ -20,14 +19,13 @@ use Rattle.space.specs.Words.{wordsFor, generationOf, tableOf, slotWords
 use Rattle.space.specs.Sound.{SpaceOf}
 use Rattle.space.specs.Lookup.{lookedUp}
 use Rattle.space.specs.Copy.{remade, copiedTable, copiedSpace, replacement, replaced}
-use Rattle.space.proofs.laws.Held.{tokenOf, Has, has-as, got-exactly, nothing-exactly}
+use Rattle.space.proofs.laws.Held.{Has, has-as, gotAs, answered-as}
 use Rattle.space.proofs.laws.Kept.{fits, long, in-range, copy-keeps}
 use Rattle.space.proofs.laws.View.{view, view-copied}
 
 -- What was answered, with the uses zeroed.
 abbrev pub freshly : Got → Got
-freshly (Entry x) = Entry (fresh x)
-freshly Nothing = Nothing
+freshly = gotAs fresh
 
 module _ (most : ℕ) (source target : List ℕ) (s : SpaceOf most source) (t : SpaceOf most target) where
   pub copy-holds : (x : CapabilityEntry) → Has (view (copiedSpace source target)) x
@@ -38,22 +36,8 @@ module _ (most : ℕ) (source target : List ℕ) (s : SpaceOf most source) (t : 
       (copy-holds-fresh-entries most (slotWords source) (tableOf source) (slotWords target) (s .sound .table) (long most target t) x)
 
   pub copy-answers : (token : ℕ) → lookedUp (copiedSpace source target) token .got ≡ freshly (lookedUp source token .got)
-  copy-answers token = go (lookedUp source token .got) refl
-    where
-      kept : SpaceOf most (copiedSpace source target)
-      kept = copy-keeps most source target s t
-
-      go : (g : Got) → lookedUp source token .got ≡ g → lookedUp (copiedSpace source target) token .got ≡ freshly g
-      go (Entry x) e =
-          let (h, is) = got-exactly most source s token x .0 e in
-          got-exactly most _ kept token (fresh x) .1
-          (copy-holds (fresh x) .1 (record { slot = h .slot; below = h .below; live = h .live; same = ap fresh (h .same) }), is)
-      go Nothing e =
-          nothing-exactly most _ kept token .1
-          (λ x h is.
-          let from = copy-holds x .0 h in
-          nothing-exactly most source s token .0 e _ (record { slot = from .slot; below = from .below; live = from .live; same = refl })
-          (ap tokenOf (from .same) ∙ is))
+  copy-answers token =
+      answered-as most source _ token s (copy-keeps most source target s t) fresh (λ x. refl) (λ x is. copy-holds x)
 
   -- ---- by way of the scratch, `kept`, that `gather` filled from the source
 

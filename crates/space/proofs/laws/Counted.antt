@@ -16,13 +16,14 @@ use Rattle.table.specs.Slots.{isLive, entryAt}
 use Rattle.table.specs.declared.CapabilityEntry.{CapabilityEntry}
 use Rattle.table.specs.declared.Found.{Found}
 use Rattle.table.specs.declared.Found.the-variants.{At, Absent}
-use Rattle.table.specs.declared.Got.the-variants.{Entry}
+use Rattle.table.specs.declared.Got.{Got}
+use Rattle.table.specs.declared.Got.the-variants.{Entry, Nothing}
 use Rattle.table.proofs.laws.Contents.{HoldsAs, Holds}
 use Rattle.table.proofs.laws.Exact.{search-at}
 use Rattle.space.specs.Words.{hitsOf, missesOf, tableOf, slotWords}
 use Rattle.space.specs.Sound.{SpaceOf}
 use Rattle.space.specs.Lookup.{up, exactly, lookedUp, countedAt, counted}
-use Rattle.space.proofs.laws.Held.{tokenOf, Has, has-as, slot-token, held-exactly, got-exactly, answered-as-before}
+use Rattle.space.proofs.laws.Held.{tokenOf, Has, has-as, slot-token, held-exactly, got-exactly, gotAs, answered-as}
 use Rattle.space.proofs.laws.Kept.{fits, held, lookup-keeps}
 use Rattle.space.proofs.laws.Lookup.{exactly-at}
 use Rattle.space.proofs.laws.Uses.{uses-token, uses-object, uses-tag}
@@ -133,37 +134,22 @@ module _ (most : ℕ) (sp : List ℕ) (s : SpaceOf most sp) (token : ℕ) where
           let z : _≡_ {A = ℕ} 0 1 = cc in
           omega arith)))
 
+  -- So it answers what it answered, with one more use of the token's entry.
+  pub counted-answers : (other : ℕ) → lookedUp (counted sp token) other .got ≡ gotAs (usedBy token) (lookedUp sp other .got)
+  counted-answers other =
+      answered-as most sp _ other s (lookup-keeps most sp s token) (usedBy token) (λ x. same-token (eqb (tokenOf x) token) x)
+      (λ x is. lookup-holds x)
+
   pub found-again : (x : CapabilityEntry) → lookedUp sp token .got ≡ Entry x → lookedUp (counted sp token) token .got ≡ Entry (used x)
   found-again x got =
       let (h, is) = got-exactly most sp s token x .0 got in
-      let counts : usedBy token x ≡ used x = rw (eq-eqb (tokenOf x) token is) in
-      got-exactly most _ (lookup-keeps most sp s token) token (used x) .1 (
-        lookup-holds (used x) .1
-            (record { slot = h .slot; below = h .below; live = h .live; same = ap (usedBy token) (h .same) ∙ counts }),
-        is,
-      )
+      counted-answers token ∙ ap (gotAs (usedBy token)) got ∙ rw (eq-eqb (tokenOf x) token is)
 
   pub others-as-before-lookup : (other : ℕ) → other ≢ token → lookedUp (counted sp token) other .got ≡ lookedUp sp other .got
-  others-as-before-lookup other d =
-      answered-as-before most sp _ other s (lookup-keeps most sp s token)
-      (λ x is. (
-        λ h.
-            let from = lookup-holds x .0 h in
-            let was = entryAt (slotWords sp) (from .slot) in
-            let word : tokenOf was ≡ other = sym (same-token (eqb (tokenOf was) token) was) ∙ ap tokenOf (from .same) ∙ is in
-            record {
-              slot = from .slot;
-              below = from .below;
-              live = from .live;
-              same = other-kept was (λ e. d (sym word ∙ e))
-                  ∙ from .same;
-            },
-        λ h.
-            lookup-holds x .1
-            (record {
-              slot = h .slot;
-              below = h .below;
-              live = h .live;
-              same = ap (usedBy token) (h .same) ∙ sym (other-kept x (λ e. d (sym is ∙ e)));
-            }),
-      ))
+  others-as-before-lookup other d = counted-answers other ∙ go (lookedUp sp other .got) refl
+    where
+      go : (g : Got) → lookedUp sp other .got ≡ g → gotAs (usedBy token) g ≡ g
+      go (Entry x) e =
+          let (h, is) = got-exactly most sp s other x .0 e in
+          ap Entry (sym (other-kept x (λ same. d (sym is ∙ same))))
+      go Nothing e = refl

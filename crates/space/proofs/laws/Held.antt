@@ -15,7 +15,7 @@ use Rattle.table.specs.declared.Found.{Found}
 use Rattle.table.specs.declared.Found.the-variants.{At, Absent}
 use Rattle.table.specs.declared.Got.{Got}
 use Rattle.table.specs.declared.Got.the-variants.{Entry, Nothing}
-use Rattle.table.proofs.laws.Contents.{Holds, held-id}
+use Rattle.table.proofs.laws.Contents.{HoldsAs, Holds, held-id}
 use Rattle.table.proofs.laws.Exact.{search-at, live-is-found, absent-exactly-when-none}
 use Rattle.table.proofs.laws.Insert.{insert-holds-old-and-new}
 use Rattle.table.proofs.laws.Remove.{remove-holds-all-others}
@@ -86,21 +86,40 @@ module _ (most : ℕ) (sp : List ℕ) (s : SpaceOf most sp) (token : ℕ) where
       from none (Entry x) e = let (h, same) = got-exactly x .0 e in absurd (none x h same)
       from none Nothing e = e
 
--- A token is answered as before where the same entries are held under it.
-pub answered-as-before :
-    (most : ℕ) (sp after : List ℕ) (token : ℕ) → SpaceOf most sp → SpaceOf most after
-    → ((x : CapabilityEntry) → tokenOf x ≡ token → Has (view after) x ↔ Has (view sp) x)
-    → lookedUp after token .got ≡ lookedUp sp token .got
-answered-as-before most sp after token s t same = go (lookedUp sp token .got) refl
-  where
-    go : (g : Got) → lookedUp sp token .got ≡ g → lookedUp after token .got ≡ lookedUp sp token .got
-    go (Entry x) e =
-        let (h, is) = got-exactly most sp s token x .0 e in
-        got-exactly most after t token x .1 (same x is .1 h, is) ∙ sym e
-    go Nothing e =
-        nothing-exactly most after t token .1
-        (λ x h is. nothing-exactly most sp s token .0 e x (same x is .0 h) is)
-        ∙ sym e
+-- What was answered, with f of its entry.
+abbrev pub gotAs : (CapabilityEntry → CapabilityEntry) → Got → Got
+gotAs f (Entry x) = Entry (f x)
+gotAs f Nothing = Nothing
+
+module _ (most : ℕ) (sp after : List ℕ) (token : ℕ) (s : SpaceOf most sp) (t : SpaceOf most after) where
+  -- Where f of the entries that were held under a token are held under it, f of what was answered is answered.
+  pub answered-as :
+      (f : CapabilityEntry → CapabilityEntry) → ((x : CapabilityEntry) → tokenOf (f x) ≡ tokenOf x)
+      → ((x : CapabilityEntry) → tokenOf x ≡ token → Has (view after) x ↔ HoldsAs f (slotWords sp) (tableOf sp .slots) x)
+      → lookedUp after token .got ≡ gotAs f (lookedUp sp token .got)
+  answered-as f kept same = go (lookedUp sp token .got) refl
+    where
+      go : (g : Got) → lookedUp sp token .got ≡ g → lookedUp after token .got ≡ gotAs f g
+      go (Entry x) e =
+          let (h, is) = got-exactly most sp s token x .0 e in
+          let word : tokenOf (f x) ≡ token = kept x ∙ is in
+          got-exactly most after t token (f x) .1
+          (same (f x) word .1 (record { slot = h .slot; below = h .below; live = h .live; same = ap f (h .same) }), word)
+      go Nothing e =
+          nothing-exactly most after t token .1
+          (λ x h is.
+          let from = same x is .0 h in
+          nothing-exactly most sp s token .0 e _ (record { slot = from .slot; below = from .below; live = from .live; same = refl })
+          (sym (kept _) ∙ ap tokenOf (from .same) ∙ is))
+
+  -- Where the same entries are, what was answered is.
+  pub answered-as-before :
+      ((x : CapabilityEntry) → tokenOf x ≡ token → Has (view after) x ↔ Has (view sp) x) → lookedUp after token .got ≡ lookedUp sp token .got
+  answered-as-before same = answered-as (λ x. x) (λ x. refl) same ∙ go (lookedUp sp token .got)
+    where
+      go : (g : Got) → gotAs (λ x. x) g ≡ g
+      go (Entry x) = refl
+      go Nothing = refl
 
 module _ (most : ℕ) (sp : List ℕ) (s : SpaceOf most sp) where
   -- ---- insert

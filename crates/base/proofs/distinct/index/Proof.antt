@@ -76,28 +76,7 @@ ruleset laws = (needs, starts, goes, fails, ends, whole)
 pub index-spec : {M : Type 1} → statement M
 index-spec =
     tie.close
-    (tie.spec
-    Inv-loop
-    μ-loop
-    (λ c. search laws)
-    (λ c. search laws)
-    (λ c. search laws)
-    (λ c κs. search laws)
-    (λ c κs. search laws)
-    (λ c. search laws)
-    (λ c. search laws)
-    (λ c. (search laws, λ e. absurd (true≢false (sym e))))
-    (λ c. search laws)
-    (λ c. search laws)
-    (λ c. search laws)
-    (λ c. search laws)
-    (λ c. search laws)
-    (λ c. search laws)
-    (λ c. search laws)
-    (λ c. search laws)
-    (λ c. search laws)
-    (λ c. search laws)
-    (λ c. search laws)
-    (λ c. search laws)
-    (λ c. search laws)
-    (λ c. (search laws, λ e. search laws)))
+    (tie.spec Inv-loop μ-loop (λ c. search laws) (λ c. search laws) (λ c. search laws) (λ c κs. search laws) (λ c κs. search laws)
+    (λ c. search laws) (λ c. search laws) (λ c. (search laws, λ e. absurd (true≢false (sym e)))) (λ c. search laws) (λ c. search laws)
+    (λ c. search laws) (λ c. search laws) (λ c. search laws) (λ c. search laws) (λ c. search laws) (λ c. search laws) (λ c. search laws)
+    (λ c. search laws) (λ c. search laws) (λ c. search laws) (λ c. search laws) (λ c. (search laws, λ e. search laws)))

@@ -64,20 +64,6 @@ returns-4 c =
 pub keep-absent-spec : {M : Type 1} → statement M
 keep-absent-spec =
     tie.close
-    (tie.spec
-    (λ c. search needs)
-    (λ c κs. search needs)
-    returns
-    returns-2
-    (λ c. sym (length-take-le _ _ (omega arith)))
-    (λ c. search needs)
-    (λ c. search needs)
-    keep-indexing-requires
-    (λ c. search needs)
-    returns-3
-    (λ c. sym (length-take-le _ _ (omega arith)))
-    (λ c. search needs)
-    (λ c. search needs)
-    keep-indexing-requires-2
-    (λ c. search needs)
-    returns-4)
+    (tie.spec (λ c. search needs) (λ c κs. search needs) returns returns-2 (λ c. sym (length-take-le _ _ (omega arith))) (λ c. search needs)
+    (λ c. search needs) keep-indexing-requires (λ c. search needs) returns-3 (λ c. sym (length-take-le _ _ (omega arith)))
+    (λ c. search needs) (λ c. search needs) keep-indexing-requires-2 (λ c. search needs) returns-4)

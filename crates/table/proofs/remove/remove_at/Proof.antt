@@ -43,15 +43,6 @@ module _ (ws : List ℕ) (i : ℕ) (s : Slot) (is : s ≡ slotAt ws i) where
 pub remove-at-spec : {M : Type 1} → statement M
 remove-at-spec =
     tie.close
-    (tie.spec
-    (λ c κs. search needs)
-    (λ c. search needs)
-    (λ c. search needs)
-    (λ c. search (same, nothing, needs))
-    (λ c κs. search needs)
-    (λ c. search needs)
-    (λ c. search needs)
-    (λ c. search needs)
-    (λ c. search (stays, entry, needs))
-    (λ c. search needs)
+    (tie.spec (λ c κs. search needs) (λ c. search needs) (λ c. search needs) (λ c. search (same, nothing, needs)) (λ c κs. search needs)
+    (λ c. search needs) (λ c. search needs) (λ c. search needs) (λ c. search (stays, entry, needs)) (λ c. search needs)
     (λ c. search (goes, entry, needs)))

@@ -18,18 +18,6 @@ abbrev μ-loop : tie.MeasureT-loop
 pub find-from-spec : {M : Type 1} → statement M
 find-from-spec =
     tie.close
-    (tie.spec
-    Inv-loop
-    μ-loop
-    (λ c. search find-laws)
-    (λ c κs. search needs)
-    (λ c κs. search needs)
-    (λ c. search needs)
-    (λ c. (search find-laws, search needs))
-    (λ c. search needs)
-    (λ c. (search find-laws, search needs))
-    (λ c κs. search needs)
-    (λ c. search needs)
-    (λ c. search needs)
-    (λ c. (search needs, search needs, search find-laws))
-    (λ c. (search find-laws, search needs)))
+    (tie.spec Inv-loop μ-loop (λ c. search find-laws) (λ c κs. search needs) (λ c κs. search needs) (λ c. search needs)
+    (λ c. (search find-laws, search needs)) (λ c. search needs) (λ c. (search find-laws, search needs)) (λ c κs. search needs)
+    (λ c. search needs) (λ c. search needs) (λ c. (search needs, search needs, search find-laws)) (λ c. (search find-laws, search needs)))

@@ -2,6 +2,7 @@
 use native.Mathlib.Omega.{arith}
 use borrow.Author.Needs.{needs}
 use lib.ListN.{length-take, length-drop}
+use Rattle.base.specs.Written.{written}
 use Rattle.world.specs.Open.{openSpace}
 use Rattle.world.specs.Regions.{space, widthOf}
 use Rattle.world.specs.Views.{lent-region}
@@ -13,7 +14,7 @@ unfolding widthOf
 put-words-requires c κs = simp (length-take, length-drop) (omega arith)
 
 returns : tie.Need-returns
-unfolding openSpace
+unfolding openSpace written
 returns c =
     let at = c .before .before .before .before .before .before in
     let args = at .before .before .args in
