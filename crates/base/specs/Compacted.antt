@@ -4,7 +4,7 @@ use mathlib.Core.Path.{_≡_, refl, sym, ap, _∙_}
 use mathlib.Core.Bool.{Bool, true, false}
 use mathlib.Core.List.{List}
 use Prim.Native.Nat.{ℕ, zero, suc, _+_, _<_, _≤_}
-use native.Mathlib.Nat.{add-zero}
+use native.Mathlib.Nat.{add-zero, le-antisymm}
 use native.Mathlib.Numerals.{add-one}
 use native.Mathlib.Omega.{arith}
 use borrow.Author.Tests.{eq-eqb, ne-eqb}
@@ -13,7 +13,7 @@ use lib.ListN.{length, getD, set, length-set}
 use lib.Seq.{getD-set-same, getD-set-other}
 use Rattle.base.specs.Below.{all, sum, one}
 use Rattle.base.specs.Choose.{pick, both, both-true, both-false}
-use Rattle.base.specs.SumLaws.{sum-one-le}
+use Rattle.base.specs.SumLaws.{sum-one-le, sum-goes}
 
 -- How many of the numbers below n pass.
 abbrev pub passing : (ℕ → Bool) → ℕ → ℕ
@@ -91,3 +91,30 @@ all-passing p (suc n) = go (p n) (all-passing p n)
     go : (here : Bool) → all n p ≡ eqb (passing p n) n → both (all n p) here ≡ eqb (passing p n + one here) (suc n)
     go true ih = both-true (all n p) ∙ ih ∙ rw (add-one, eqb·suc-suc)
     go false ih = both-false (all n p) ∙ sym (ne-eqb (passing p n + 0) (suc n) (λ e. omega (arith, sum-one-le p n)))
+
+-- ---- the turns of a loop that writes them
+
+-- The numbers below i are done, of n, and m of them passed; xs₀ is the list as it was lent.
+pub record Compacting (f : ℕ → ℕ) (p : ℕ → Bool) (n : ℕ) (xs₀ xs : List ℕ) (m i : ℕ) : Type 0 where
+  pub inside : i ≤ n
+  pub few : m ≤ i
+  pub passed : m ≡ passing p i
+  pub written : xs ≡ compacted f p i xs₀
+
+pub compact-starts : (f : ℕ → ℕ) (p : ℕ → Bool) (n : ℕ) (xs : List ℕ) → Compacting f p n xs xs 0 0
+unfolding compacted sum
+compact-starts f p n xs = record { inside = omega arith; few = omega arith; passed = refl; written = refl }
+
+module _ (f : ℕ → ℕ) (p : ℕ → Bool) (n : ℕ) (xs₀ xs : List ℕ) (m i : ℕ) (compacting : Compacting f p n xs₀ xs m i) where
+  pub compact-goes :
+      (v more : ℕ) → i < n → v ≡ f i → more ≡ one (p i) → more ≤ 1 → Compacting f p n xs₀ (set xs m v) (m + more) (i + 1)
+  unfolding compacted
+  compact-goes v more l e h u = record {
+    inside = omega arith;
+    few = omega (arith, compacting .few);
+    passed = sum-goes (λ i. one (p i)) i m more (compacting .passed) h;
+    written = rw (add-one, ← compacting .passed, ← compacting .written, e);
+  }
+
+  pub compact-ends : n ≤ i → Compacting f p n xs₀ xs m n
+  compact-ends past = rw (le-antisymm (compacting .inside) past) at compacting

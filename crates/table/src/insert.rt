@@ -10,6 +10,7 @@ use super::CapabilityEntry;
 use super::Inserted;
 use super::Slot;
 use super::walk::free_for;
+use super::words::REMOVED;
 use super::words::entry_at;
 use super::words::kind_at;
 use super::words::put_entry;
@@ -144,7 +145,7 @@ fn marks_left(words: &[u64], i: usize, tombstones: usize) -> usize
     requires { ⌜ (i < 512) × (4 * i + 3 < length (now words)) ⌝ }
     ensures { λ r. ⌜ r ≡ tombstones - one (isRemoved (now (words .entry)) i) ⌝ }
 {
-    if kind_at(words, i) != 1 {
+    if kind_at(words, i) != REMOVED {
         return tombstones;
     }
     if tombstones == 0 {

@@ -17,10 +17,12 @@ pub use insert::insert_new;
 pub use insert::slots_for;
 pub use remove::remove_at;
 pub use sound::is_sound;
+pub use sound::one_of;
 use token::CapabilityToken;
 use token::Rights;
 pub use walk::find;
 pub use walk::get;
+pub use words::FULL;
 pub use words::entry_at;
 pub use words::slot_at;
 

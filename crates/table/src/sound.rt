@@ -13,6 +13,8 @@ use super::CapTable;
 use super::Found;
 use super::insert::slots_for;
 use super::walk::find;
+use super::words::FULL;
+use super::words::REMOVED;
 use super::words::id_at;
 use super::words::kind_at;
 use base::distinct::wide;
@@ -73,7 +75,7 @@ fn is_found(words: &[u64], slots: usize, i: usize) -> bool
 }
 
 // 1 for a slot of that kind, 0 for any other.
-fn one_of(words: &[u64], i: usize, kind: u64) -> usize
+pub fn one_of(words: &[u64], i: usize, kind: u64) -> usize
     requires { ⌜ (i < 512) × (4 * i + 3 < length (now words)) ⌝ }
     ensures { λ r. ⌜ (r ≡ one (eqb (kindAt (now (words .entry)) i) kind)) × (r ≤ 1) ⌝ }
 {
@@ -88,7 +90,7 @@ fn one_coded(words: &[u64], i: usize) -> usize
     requires { ⌜ (i < 512) × (4 * i + 3 < length (now words)) ⌝ }
     ensures { λ r. ⌜ (r ≡ one (codedAt (now (words .entry)) i)) × (r ≤ 1) ⌝ }
 {
-    if kind_at(words, i) <= 2 {
+    if kind_at(words, i) <= FULL {
         return 1;
     }
     0
@@ -108,8 +110,8 @@ fn kinds_sound(words: &[u64], t: CapTable, live: &mut [u16; 512]) -> bool
     let mut i = 0;
     while i < slots {
         live[n] = i as u16;
-        n += one_of(words, i, 2);
-        removed += one_of(words, i, 1);
+        n += one_of(words, i, FULL);
+        removed += one_of(words, i, REMOVED);
         coded += one_coded(words, i);
         i += 1;
     }

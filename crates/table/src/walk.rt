@@ -9,6 +9,8 @@ ghost use Rattle.table.specs.Walk.{homeOf, search, searchFrom, got, free
 use super::Found;
 use super::Got;
 use super::Search;
+use super::words::EMPTY;
+use super::words::FULL;
 use super::words::entry_at;
 use super::words::id_at;
 use super::words::kind_at;
@@ -43,7 +45,7 @@ fn has_id(words: &[u64], i: usize, kind: u64, id: u64) -> bool
     requires { ⌜ (i < 512) × (4 * i + 3 < length (now words)) ⌝ }
     ensures { λ r. ⌜ r ≡ both (eqb kind 2) (eqb (idAt (now (words .entry)) i) id) ⌝ }
 {
-    if kind == 2 {
+    if kind == FULL {
         return id_at(words, i) == id;
     }
     false
@@ -64,7 +66,7 @@ fn find_from(words: &[u64], slots: usize, id: u64, from: usize, n: usize) -> Sea
                 visits: passed + 1,
             };
         }
-        if kind == 0 {
+        if kind == EMPTY {
             return Search {
                 found: Found::Absent,
                 visits: passed + 1,
@@ -98,7 +100,7 @@ pub fn find(words: &[u64], slots: usize, id: u64) -> Search
             visits: 1,
         };
     }
-    if kind == 0 {
+    if kind == EMPTY {
         return Search {
             found: Found::Absent,
             visits: 1,
@@ -132,7 +134,7 @@ pub fn free_for(words: &[u64], slots: usize, id: u64) -> usize
     let mut i = home(id, slots);
     let mut steps = 0;
     while steps < slots {
-        if kind_at(words, i) != 2 {
+        if kind_at(words, i) != FULL {
             return i;
         }
         i = next(i, slots);

@@ -8,7 +8,13 @@ use super::Slot;
 use token::CapabilityToken;
 use token::Rights;
 
-// 0 empty, 1 removed, 2 full.
+// The kinds of a slot.
+pub const EMPTY: u64 = 0;
+
+pub const REMOVED: u64 = 1;
+
+pub const FULL: u64 = 2;
+
 pub fn kind_at(words: &[u64], i: usize) -> u64
     requires { ⌜ (i < 512) × (4 * i + 3 < length (now words)) ⌝ }
     ensures { λ r. ⌜ r ≡ kindAt (now (words .entry)) i ⌝ }
@@ -41,10 +47,10 @@ pub fn slot_at(words: &[u64], i: usize) -> Slot
     ensures { λ r. ⌜ r ≡ slotAt (now (words .entry)) i ⌝ }
 {
     let kind = kind_at(words, i);
-    if kind == 2 {
+    if kind == FULL {
         return Slot::Full(entry_at(words, i));
     }
-    if kind == 0 {
+    if kind == EMPTY {
         return Slot::Empty;
     }
     Slot::Tombstone

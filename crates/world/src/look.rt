@@ -3,12 +3,10 @@ ghost use mathlib.Core.Path.{_≡_};
 ghost use mathlib.Core.Bool.{true};
 ghost use Prim.Native.Nat.{_+_, _*_, _<_, _≤_};
 ghost use lib.ListN.{length};
-ghost use Rattle.base.specs.Below.{one};
 ghost use Rattle.base.specs.Chain.{Chained};
 ghost use Rattle.registry.specs.Counts.{AtMost};
 ghost use Rattle.space.specs.Sound.{spaceTest};
 ghost use Rattle.space.specs.Words.{tableOf, slotWords};
-ghost use Rattle.table.specs.Slots.{isLive};
 ghost use Rattle.world.specs.Look.{countSlots, liveBelow, liveIds, Looked};
 ghost use Rattle.world.specs.Regions.{space, view};
 ghost use Rattle.world.specs.Numbers.{registeredOf, InRange};
@@ -26,7 +24,6 @@ use crate::regions::width;
 use registry_look::count_entries;
 use registry_look::holders_within;
 use registry_look::registry_sound;
-use table::Slot;
 
 // The counts and the next id, in their ranges.
 fn counts_fit(mem: &[u64], d: Numbers) -> bool
@@ -62,18 +59,6 @@ fn head_sound(mem: &[u64], d: Numbers) -> bool
     counts_fit(mem, d)
 }
 
-// 1 for a live slot, 0 for any other.
-fn one_live(words: &[u64], i: usize) -> usize
-    requires { ⌜ (i < 512) × (4 * i + 3 < length (now words)) ⌝ }
-    ensures { λ r. ⌜ (r ≡ one (isLive (now (words .entry)) i)) × (r ≤ 1) ⌝ }
-{
-    match table::slot_at(words, i) {
-        Slot::Full(_) => 1,
-        Slot::Tombstone => 0,
-        Slot::Empty => 0,
-    }
-}
-
 // Writes the ids of the live slots one after the other, and answers how many they are. Every slot's id is written, over the one before
 // it unless that was live: a branch by the kind, which follows no pattern, would be mispredicted every other time.
 fn live_ids(words: &[u64], slots: usize, ids: &mut [u64; 512]) -> usize
@@ -87,7 +72,7 @@ fn live_ids(words: &[u64], slots: usize, ids: &mut [u64; 512]) -> usize
         let entry = table::entry_at(words, i);
         let capability = entry.capability;
         ids[n] = capability.id();
-        n += one_live(words, i);
+        n += table::one_of(words, i, table::FULL);
         i += 1;
     }
     n

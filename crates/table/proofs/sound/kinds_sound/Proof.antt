@@ -6,7 +6,6 @@ use mathlib.Core.List.{List}
 use mathlib.Core.Logic.{_≢_}
 use Prim.Native.Nat.{ℕ, _+_, _-_, _≤_, _<_}
 use native.Mathlib.Nat.{le-antisymm}
-use native.Mathlib.Numerals.{add-one}
 use native.Mathlib.Omega.{arith}
 use borrow.Author.Needs.{needs}
 use borrow.Author.Tests.{eq-eqb, ne-eqb}
@@ -14,7 +13,7 @@ use lib.Dec.{eqb}
 use lib.ListN.{set}
 use Rattle.base.specs.Choose.{both}
 use Rattle.base.specs.Below.{sum, one}
-use Rattle.base.specs.Compacted.{passing, compacted, all-passing}
+use Rattle.base.specs.Compacted.{passing, all-passing, Compacting, compact-starts, compact-goes}
 use Rattle.base.specs.SumLaws.{sum-goes}
 use Rattle.table.specs.Slots.{isLive, isRemoved}
 use Rattle.table.specs.Sound.{codedAt, codedTest, countsTest, liveSlots}
@@ -24,26 +23,20 @@ use Rattle.table.proofs.sound.kinds_sound.Tie as tie
 
 -- The first i slots are done; xs₀ is the memory for the numbers as it was lent.
 record Done (ws : List ℕ) (slots : ℕ) (xs₀ xs : List ℕ) (n removed coded i : ℕ) : Type 0 where
-  inside : i ≤ slots
-  few-live : n ≤ i
+  live : Compacting (λ i. i) (isLive ws) slots xs₀ xs n i
   few-removed : removed ≤ i
   few-coded : coded ≤ i
-  live-is : n ≡ passing (isLive ws) i
   removed-is : removed ≡ passing (isRemoved ws) i
   coded-is : coded ≡ passing (codedAt ws) i
-  written : xs ≡ liveSlots ws i xs₀
 
 starts : (ws : List ℕ) (slots : ℕ) (xs : List ℕ) → Done ws slots xs xs 0 0 0 0
-unfolding sum liveSlots compacted
+unfolding sum
 starts ws slots xs = record {
-  inside = omega arith;
-  few-live = omega arith;
+  live = compact-starts (λ i. i) (isLive ws) slots xs;
   few-removed = omega arith;
   few-coded = omega arith;
-  live-is = refl;
   removed-is = refl;
   coded-is = refl;
-  written = refl;
 }
 
 module _ (ws : List ℕ) (slots : ℕ) (xs₀ xs : List ℕ) (n removed coded i : ℕ) (done : Done ws slots xs₀ xs n removed coded i) where
@@ -51,20 +44,20 @@ module _ (ws : List ℕ) (slots : ℕ) (xs₀ xs : List ℕ) (n removed coded i 
       (l r k : ℕ) → i < slots → (l ≡ one (isLive ws i)) × (l ≤ 1) → (r ≡ one (isRemoved ws i)) × (r ≤ 1)
       → (k ≡ one (codedAt ws i)) × (k ≤ 1)
       → Done ws slots xs₀ (set xs n i) (n + l) (removed + r) (coded + k) (i + 1)
-  unfolding liveSlots compacted
   goes l r k u (live, live-one) (mark, mark-one) (listed-kind, listed-one) = record {
-    inside = omega arith;
-    few-live = omega (arith, done .few-live);
+    live = compact-goes (λ i. i) (isLive ws) slots xs₀ xs n i (done .live) i l u refl live live-one;
     few-removed = omega (arith, done .few-removed);
     few-coded = omega (arith, done .few-coded);
-    live-is = sum-goes (λ i. one (isLive ws i)) i n l (done .live-is) live;
     removed-is = sum-goes (λ i. one (isRemoved ws i)) i removed r (done .removed-is) mark;
     coded-is = sum-goes (λ i. one (codedAt ws i)) i coded k (done .coded-is) listed-kind;
-    written = rw (add-one, ← done .live-is, ← done .written);
   }
 
   whole : slots ≤ i → Done ws slots xs₀ xs n removed coded slots
-  whole past = rw (le-antisymm (done .inside) past) at done
+  whole past = rw (le-antisymm (done .live .inside) past) at done
+
+  written : slots ≤ i → xs ≡ liveSlots ws slots xs₀
+  unfolding liveSlots
+  written past = whole past .live .written
 
 module _ (ws : List ℕ) (t : CapTable) (xs₀ xs : List ℕ) (n removed coded i : ℕ) (done : Done ws (t .slots) xs₀ xs n removed coded i)
     (past : t .slots ≤ i)
@@ -83,10 +76,10 @@ module _ (ws : List ℕ) (t : CapTable) (xs₀ xs : List ℕ) (n removed coded i
 
     module _ (all-coded : coded ≡ t .slots) where
       miscounted : n ≢ t .full → false ≡ passes
-      miscounted d = rw (coded-tested, eq-eqb coded (t .slots) all-coded, ← all-done .live-is, ne-eqb n (t .full) d)
+      miscounted d = rw (coded-tested, eq-eqb coded (t .slots) all-coded, ← all-done .live .passed, ne-eqb n (t .full) d)
 
       counted : n ≡ t .full → eqb removed (t .tombstones) ≡ passes
-      counted e = rw (coded-tested, eq-eqb coded (t .slots) all-coded, ← all-done .live-is, eq-eqb n (t .full) e, ← all-done .removed-is)
+      counted e = rw (coded-tested, eq-eqb coded (t .slots) all-coded, ← all-done .live .passed, eq-eqb n (t .full) e, ← all-done .removed-is)
 
 abbrev Inv-loop : tie.InvT-loop
 Inv-loop words t live₀ slots n₀ removed₀ coded₀ i₀ live n removed coded i = Done words slots live₀ live n removed coded i
@@ -100,20 +93,20 @@ returns : tie.Need-returns Inv-loop μ-loop
 returns c =
     let past = c .before .loop-test .left in
     let done = c .before .before .loop .inv in
-    (unlisted _ _ _ _ _ _ _ _ done past (c .if1 .taken), whole _ _ _ _ _ _ _ _ done past .written)
+    (unlisted _ _ _ _ _ _ _ _ done past (c .if1 .taken), written _ _ _ _ _ _ _ _ done past)
 
 returns-2 : tie.Need-returns-2 Inv-loop μ-loop
 returns-2 c =
     let past = c .before .before .before .loop-test .left in
     let done = c .before .before .before .before .loop .inv in
-    (miscounted _ _ _ _ _ _ _ _ done past (c .before .before .if1 .left) (c .if2 .taken), whole _ _ _ _ _ _ _ _ done past .written)
+    (miscounted _ _ _ _ _ _ _ _ done past (c .before .before .if1 .left) (c .if2 .taken), written _ _ _ _ _ _ _ _ done past)
 
 returns-3 : tie.Need-returns-3 Inv-loop μ-loop
 returns-3 c =
     let past = c .before .before .before .before .loop-test .left in
     let done = c .before .before .before .before .before .loop .inv in (
       counted _ _ _ _ _ _ _ _ done past (c .before .before .before .if1 .left) (c .before .if2 .left),
-      whole _ _ _ _ _ _ _ _ done past .written,
+      written _ _ _ _ _ _ _ _ done past,
     )
 
 pub kinds-sound-spec : {M : Type 1} → statement M
