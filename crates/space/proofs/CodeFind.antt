@@ -13,38 +13,53 @@ use Rattle.table.specs.declared.Found.the-variants.{At, Absent}
 use Rattle.table.specs.declared.Got.the-variants.{Entry, Nothing}
 use Rattle.table.specs.declared.Search.{Search}
 use Rattle.table.proofs.laws.Exact.{search-at}
+use Rattle.token.specs.Token.{idOf}
 use Rattle.space.specs.Words.{hitsOf, missesOf, tableOf, slotWords, InRange, SlotOf}
-use Rattle.space.specs.Lookup.{up, isFound, searchId, searchFor, wholly, exactly, exactSearch, lookedUp, gotEntry, withUse, countedAt, counted}
+use Rattle.space.specs.Lookup.{up, isFound, searchId, wholly, exactly, exactSearch, SearchOf, entryOf, lookedUp, gotEntry, withUse, countedAt, counted}
 use Rattle.space.specs.Counters.{oneMore, countersOf, withCounters, countedSearch}
+use Rattle.space.specs.declared.LookedUp.{LookedUp}
 use Rattle.space.specs.declared.counters.CountedSearch.{CountedSearch}
 use Rattle.space.specs.declared.counters.Counters.{Counters}
 use Rattle.space.proofs.laws.Lookup.{exactly-at}
 
+-- ---- where a search ended
+
+module _ (sp : List ℕ) (s : Search) where
+  pub slot-of : (i : ℕ) → SearchOf sp s → s .found ≡ At i → SlotOf sp i
+  slot-of i searched at-i = searched .slot i at-i
+
+  pub answers-nothing : s .found ≡ Absent → record { got = Nothing; visits = s .visits } ≡ entryOf sp s
+  answers-nothing absent = cc
+
+  pub answers-entry : (i : ℕ) (e : CapabilityEntry) → s .found ≡ At i → e ≡ entryAt (slotWords sp) i
+      → record { got = Entry e; visits = s .visits } ≡ entryOf sp s
+  answers-entry i e at-i here = cc
+
 -- ---- by the id
 
 module _ (sp : List ℕ) (id : ℕ) (s : Search) (is : s ≡ searchId sp id) where
-  pub searched-slot : (i : ℕ) → InRange sp → s .found ≡ At i → SlotOf sp i
-  searched-slot i range at-i =
-      record {
-        range = range;
-        below = search-at (slotWords sp) (tableOf sp .slots) id i (sym (ap (λ (s : Search). s .found) is) ∙ at-i) .0;
-      }
+  pub id-search : InRange sp → SearchOf sp s
+  id-search range = record {
+    range = range;
+    slot = λ i at-i. record {
+      range = range;
+      below = search-at (slotWords sp) (tableOf sp .slots) id i (sym (ap (λ (s : Search). s .found) is) ∙ at-i) .0;
+    };
+  }
 
-  pub gets-nothing : s .found ≡ Absent → record { got = Nothing; visits = s .visits } ≡ gotEntry sp id
+  pub id-answer : (r : LookedUp) → r ≡ entryOf sp s → r ≡ gotEntry sp id
   unfolding gotEntry
-  gets-nothing absent = cc
-
-  pub gets-entry : (i : ℕ) (e : CapabilityEntry) → s .found ≡ At i → e ≡ entryAt (slotWords sp) i
-      → record { got = Entry e; visits = s .visits } ≡ gotEntry sp id
-  unfolding gotEntry
-  gets-entry i e at-i here = cc
+  id-answer r e = e ∙ ap (entryOf sp) is
 
 -- ---- by the whole token: the id's search, then the token compared
 
-module _ (sp : List ℕ) (token : ℕ) (s : Search) (is : s ≡ searchFor sp token) where
+module _ (sp : List ℕ) (token id : ℕ) (s : Search) (own : id ≡ idOf token) (is : s ≡ searchId sp id) where
   pub id-absent : s .found ≡ Absent → s ≡ exactSearch sp token
   unfolding exactly
-  id-absent absent = let none : s .found ≡ exactly sp token = cc in λ k. record { found = none k; visits = is k .visits }
+  id-absent absent =
+      let none : s .found ≡ exactly sp token = cc in
+      let visits : s .visits ≡ searchId sp (idOf token) .visits = cc in
+      λ k. record { found = none k; visits = visits k }
 
   pub id-found : (i : ℕ) (f : Found) → s .found ≡ At i → f ≡ wholly sp token (At i)
       → record { found = f; visits = s .visits } ≡ exactSearch sp token
@@ -52,34 +67,30 @@ module _ (sp : List ℕ) (token : ℕ) (s : Search) (is : s ≡ searchFor sp tok
   id-found i f at-i whole = cc
 
 module _ (sp : List ℕ) (token : ℕ) (s : Search) (is : s ≡ exactSearch sp token) where
-  pub exact-slot : (i : ℕ) → InRange sp → s .found ≡ At i → SlotOf sp i
-  exact-slot i range at-i =
-      searched-slot sp _ _ refl i range (exactly-at sp token i (sym (ap (λ (s : Search). s .found) is) ∙ at-i) .0)
+  pub exact-search : InRange sp → SearchOf sp s
+  exact-search range = record {
+    range = range;
+    slot = λ i at-i. id-search sp _ _ refl range .slot i (exactly-at sp token i (sym (ap (λ (s : Search). s .found) is) ∙ at-i) .0);
+  }
 
-  pub answers-nothing : s .found ≡ Absent → record { got = Nothing; visits = s .visits } ≡ lookedUp sp token
+  pub exact-answer : (r : LookedUp) → r ≡ entryOf sp s → r ≡ lookedUp sp token
   unfolding lookedUp
-  answers-nothing absent = cc
-
-  pub answers-entry : (i : ℕ) (e : CapabilityEntry) → s .found ≡ At i → e ≡ entryAt (slotWords sp) i
-      → record { got = Entry e; visits = s .visits } ≡ lookedUp sp token
-  unfolding lookedUp
-  answers-entry i e at-i here = cc
+  exact-answer r e = e ∙ ap (entryOf sp) is
 
 -- ---- by the whole token, counted in the record that was lent
 
 module _ (sp : List ℕ) (token : ℕ) (c : Counters) (r : CountedSearch) (was : c ≡ countersOf sp) (is : r ≡ countedSearch sp token c) where
-  lent-search : r .search ≡ exactSearch sp token
-  lent-search = ap (λ (r : CountedSearch). r .search) is
+  exact : r .search ≡ exactSearch sp token
+  exact = ap (λ (r : CountedSearch). r .search) is
+
+  pub lent-search : (s : Search) → s ≡ r .search → InRange sp → SearchOf sp s
+  lent-search s e = exact-search sp token s (e ∙ exact)
 
   pub lent-slot : (i : ℕ) → InRange sp → r .search .found ≡ At i → SlotOf sp i
-  lent-slot = exact-slot sp token (r .search) lent-search
+  lent-slot i range = lent-search _ refl range .slot i
 
-  pub lent-nothing : r .search .found ≡ Absent → record { got = Nothing; visits = r .search .visits } ≡ lookedUp sp token
-  lent-nothing = answers-nothing sp token (r .search) lent-search
-
-  pub lent-entry : (i : ℕ) (e : CapabilityEntry) → r .search .found ≡ At i → e ≡ entryAt (slotWords sp) i
-      → record { got = Entry e; visits = r .search .visits } ≡ lookedUp sp token
-  lent-entry = answers-entry sp token (r .search) lent-search
+  pub lent-answer : (answer : LookedUp) → answer ≡ entryOf sp (r .search) → answer ≡ lookedUp sp token
+  lent-answer = exact-answer sp token (r .search) exact
 
   ended : (f : Found) → r .search .found ≡ f → exactly sp token ≡ f
   ended f e = sym (ap (λ (r : CountedSearch). r .search .found) is) ∙ e
@@ -119,6 +130,7 @@ module _ (sp : List ℕ) (token : ℕ) (c : Counters) (r : CountedSearch) (was :
 pub counters-fit : (sp used : List ℕ) (i : ℕ) → InRange sp → used ≡ withUse sp i → 8 ≤ length used
 counters-fit sp used i range one-use = rw (one-use, length-set) (omega (arith, range .held))
 
-pub ruleset find-laws = (searched-slot, gets-nothing, gets-entry, id-absent, id-found, exact-slot, answers-nothing, answers-entry, needs)
+pub ruleset find-laws =
+    (slot-of, answers-nothing, answers-entry, id-search, id-answer, id-absent, id-found, exact-search, exact-answer, needs)
 
-pub ruleset lookup-laws = (lent-slot, lent-nothing, lent-entry, counts-miss, counts-hit, counters-fit, needs)
+pub ruleset lookup-laws = (lent-search, lent-slot, lent-answer, counts-miss, counts-hit, counters-fit, needs)

@@ -1,6 +1,7 @@
 -- Document 01: lookup matches the whole token and counts hits, misses and uses in 64 bits, wrapping.
 use mathlib.Core.Bool.{Bool, true, false}
 use mathlib.Core.List.{List}
+use mathlib.Core.Path.{_≡_}
 use Prim.Native.Nat.{ℕ, _+_, _*_, _%_, _^_}
 use lib.Dec.{eqb}
 use lib.ListN.{getD, set}
@@ -10,7 +11,7 @@ use Rattle.table.specs.declared.Found.{Found}
 use Rattle.table.specs.declared.Found.the-variants.{At, Absent}
 use Rattle.table.specs.declared.Search.{Search}
 use Rattle.token.specs.Token.{idOf}
-use Rattle.space.specs.Words.{hitsOf, missesOf, tableOf, slotWords}
+use Rattle.space.specs.Words.{hitsOf, missesOf, tableOf, slotWords, InRange, SlotOf}
 use Rattle.space.specs.declared.LookedUp.{LookedUp}
 
 -- A 64-bit counter goes up by one and wraps.
@@ -41,6 +42,11 @@ exactly sp token = wholly sp token (searchFor sp token .found)
 -- The same with the visits of the search.
 abbrev pub exactSearch : List ℕ → ℕ → Search
 exactSearch sp token = record { found = exactly sp token; visits = searchFor sp token .visits }
+
+-- A search of the space: the slot where it ended is one of the table's.
+pub record SearchOf (sp : List ℕ) (s : Search) : Type 0 where
+  pub range : InRange sp
+  pub slot : (i : ℕ) → s .found ≡ At i → SlotOf sp i
 
 -- What a search answers: the entry of the slot where it ended, and its visits.
 abbrev pub entryOf : List ℕ → Search → LookedUp

@@ -1,13 +1,12 @@
 // What changes a space: inserting, removing, clearing, and its generation.
 ghost use mathlib.Core.Path.{_≡_};
 ghost use Prim.Native.Nat.{_<_};
-ghost use Rattle.table.specs.Slots.{entryAt};
-ghost use Rattle.space.specs.Words.{quotaOf, tableOf, slotWords, InRange, SlotOf};
+ghost use Rattle.space.specs.Words.{quotaOf, tableOf, InRange, SlotOf};
 ghost use Rattle.space.specs.Lookup.{isFound, searchId, lookedUp};
 ghost use Rattle.space.specs.Change.{insertedTable, inserted, insertOut, answered, removed, removedToken, cleared, nextGeneration};
 use super::Insertion;
 use super::LookedUp;
-use super::find::entry_at;
+use super::find::entry_of;
 use super::find::exact;
 use super::find::is_found;
 use super::find::search_id;
@@ -21,7 +20,6 @@ use answers::Answer;
 use table::CapTable;
 use table::CapabilityEntry;
 use table::Found;
-use table::Got;
 use token::CapabilityToken;
 
 // Whether an entry has the id.
@@ -56,7 +54,7 @@ pub fn insert(sp: &mut [u64], entry: CapabilityEntry) -> Insertion
             moved: 0,
         };
     }
-    if holds_id(sp, capability.0 % 0x1_0000_0000_0000) {
+    if holds_id(sp, capability.id()) {
         return Insertion {
             answer: Answer::AlreadyExists,
             moved: 0,
@@ -69,17 +67,14 @@ pub fn insert(sp: &mut [u64], entry: CapabilityEntry) -> Insertion
 }
 
 // The entry of slot i leaves.
-fn remove_slot(sp: &mut [u64], i: usize) -> CapabilityEntry
+fn remove_slot(sp: &mut [u64], i: usize)
     requires { ⌜ SlotOf (now sp) i ⌝ }
     ensures { λ _. ⌜ now (sp .exit) ≡ removed (now (sp .entry)) i ⌝ }
-    ensures { λ r. ⌜ r ≡ entryAt (slotWords (now (sp .entry))) i ⌝ }
 {
-    let entry = entry_at(sp, i);
     let t = table_of(sp);
     let s = table::remove_at(&mut sp[8..], t, i);
     let after = s.table;
     put_table(sp, after);
-    entry
 }
 
 // Only exactly this token removes its entry, which is the answer; a stale one leaves the live capability alone.
@@ -89,17 +84,13 @@ pub fn remove(sp: &mut [u64], token: CapabilityToken) -> LookedUp
     ensures { λ r. ⌜ r ≡ lookedUp (now (sp .entry)) (token .0) ⌝ }
 {
     let s = exact(sp, token);
+    let answer = entry_of(sp, s);
     let found = s.found;
     let Found::At(i) = found else {
-        return LookedUp {
-            got: Got::Nothing,
-            visits: s.visits,
-        };
+        return answer;
     };
-    LookedUp {
-        got: Got::Entry(remove_slot(sp, i)),
-        visits: s.visits,
-    }
+    remove_slot(sp, i);
+    answer
 }
 
 pub fn clear(sp: &mut [u64])

@@ -4,7 +4,7 @@ ghost use Rattle.table.specs.Slots.{entryAt};
 ghost use Rattle.table.specs.Insert.{liveEntries};
 ghost use Rattle.table.specs.Copy.{nthOf};
 ghost use Rattle.space.specs.Words.{tableOf, slotWords, InRange, SlotOf};
-ghost use Rattle.space.specs.Lookup.{isFound, searchId, wholly, exactSearch, counted, lookedUp, gotEntry, withUse};
+ghost use Rattle.space.specs.Lookup.{isFound, searchId, SearchOf, entryOf, wholly, exactSearch, counted, lookedUp, gotEntry, withUse};
 use super::LookedUp;
 use super::counters::lend;
 use super::words::counters_of;
@@ -34,11 +34,29 @@ pub fn is_found(s: Search) -> bool
     }
 }
 
-pub fn entry_at(sp: &[u64], i: usize) -> CapabilityEntry
+fn entry_at(sp: &[u64], i: usize) -> CapabilityEntry
     requires { ⌜ SlotOf (now sp) i ⌝ }
     ensures { λ r. ⌜ r ≡ entryAt (slotWords (now (sp .entry))) i ⌝ }
 {
     table::entry_at(&sp[8..], i)
+}
+
+// What a search answers: the entry of the slot where it ended, and its visits.
+pub fn entry_of(sp: &[u64], s: Search) -> LookedUp
+    requires { ⌜ SearchOf (now sp) s ⌝ }
+    ensures { λ r. ⌜ r ≡ entryOf (now (sp .entry)) s ⌝ }
+{
+    let found = s.found;
+    let Found::At(i) = found else {
+        return LookedUp {
+            got: Got::Nothing,
+            visits: s.visits,
+        };
+    };
+    LookedUp {
+        got: Got::Entry(entry_at(sp, i)),
+        visits: s.visits,
+    }
 }
 
 // Slot i, if it holds the whole token.
@@ -57,7 +75,7 @@ pub fn exact(sp: &[u64], token: CapabilityToken) -> Search
     requires { ⌜ InRange (now sp) ⌝ }
     ensures { λ r. ⌜ r ≡ exactSearch (now (sp .entry)) (token .0) ⌝ }
 {
-    let s = search_id(sp, token.0 % 0x1_0000_0000_0000);
+    let s = search_id(sp, token.id());
     let found = s.found;
     let Found::At(i) = found else {
         return s;
@@ -86,21 +104,15 @@ pub fn lookup(sp: &mut [u64], token: CapabilityToken) -> LookedUp
     let counted = lend(sp, token, counters_of(sp));
     let s = counted.search;
     let after = counted.counters;
+    let answer = entry_of(sp, s);
     let found = s.found;
     let Found::At(i) = found else {
         put_counters(sp, after);
-        return LookedUp {
-            got: Got::Nothing,
-            visits: s.visits,
-        };
+        return answer;
     };
-    let entry = entry_at(sp, i);
     count_use(sp, i);
     put_counters(sp, after);
-    LookedUp {
-        got: Got::Entry(entry),
-        visits: s.visits,
-    }
+    answer
 }
 
 // The entry of an id, whatever its generation; not counted.
@@ -108,18 +120,7 @@ pub fn get_entry(sp: &[u64], id: u64) -> LookedUp
     requires { ⌜ InRange (now sp) ⌝ }
     ensures { λ r. ⌜ r ≡ gotEntry (now (sp .entry)) id ⌝ }
 {
-    let s = search_id(sp, id);
-    let found = s.found;
-    let Found::At(i) = found else {
-        return LookedUp {
-            got: Got::Nothing,
-            visits: s.visits,
-        };
-    };
-    LookedUp {
-        got: Got::Entry(entry_at(sp, i)),
-        visits: s.visits,
-    }
+    entry_of(sp, search_id(sp, id))
 }
 
 // The n-th live entry in slot order, n from 0.

@@ -23,5 +23,5 @@ module _ (sp : List ℕ) (token : ℕ) (s : Search) (is : s ≡ exactSearch sp t
 pub remove-spec : {M : Type 1} → statement M
 remove-spec =
     tie.close
-    (tie.spec (λ c κs. search needs) (λ c. search needs) (λ c. search needs) (λ c. search needs) (λ c. search (stays, find-laws))
-    (λ c κs. search find-laws) (λ c. search needs) (λ c. search (goes, find-laws)))
+    (tie.spec (λ c κs. search needs) (λ c κs. search find-laws) (λ c. search needs) (λ c. search needs) (λ c. search needs)
+    (λ c. search (stays, find-laws)) (λ c κs. search find-laws) (λ c. search needs) (λ c. search (goes, find-laws)))

@@ -1,4 +1,4 @@
--- `space::change::remove_slot` meets its contract: the entry is read, the table gives it up, the space takes its counts.
+-- `space::change::remove_slot` meets its contract: the table gives the entry up, and the space takes its counts.
 use mathlib.Core.Path.{ap}
 use native.Mathlib.Omega.{arith}
 use borrow.Author.Needs.{needs}
@@ -13,5 +13,5 @@ remove-at-requires c κs = omega (arith, ap (λ (t : CapTable). t .tombstones) (
 pub remove-slot-spec : {M : Type 1} → statement M
 remove-slot-spec =
     tie.close
-    (tie.spec (λ c κs. search needs) (λ c κs. search needs) (λ c. search needs) (λ c. search needs) (λ c. search needs) remove-at-requires
-    (λ c κs. search needs) (λ c. search needs) (λ c. search change-laws))
+    (tie.spec (λ c κs. search needs) (λ c. search needs) (λ c. search needs) (λ c. search needs) remove-at-requires (λ c κs. search needs)
+    (λ c. search needs) (λ c. search change-laws))

@@ -7,5 +7,5 @@ use Rattle.space.proofs.find.exact.Tie as tie
 pub exact-spec : {M : Type 1} → statement M
 exact-spec =
     tie.close
-    (tie.spec (λ c κs. search needs) (λ c. search needs) (λ c. search needs) (λ c. search find-laws) (λ c κs. search find-laws)
-    (λ c. search find-laws))
+    (tie.spec (λ c κs. search needs) (λ c κs. search needs) (λ c. search needs) (λ c. search needs) (λ c. search find-laws)
+    (λ c κs. search find-laws) (λ c. search find-laws))

@@ -1,4 +1,4 @@
--- `space::find::get_entry` meets its contract.
+-- `space::find::get_entry` meets its contract: what the search of the id answers.
 use borrow.Author.Needs.{needs}
 use Rattle.space.proofs.CodeFind.{find-laws}
 use Rattle.space.proofs.find.get_entry.Statement.{statement}
@@ -7,5 +7,4 @@ use Rattle.space.proofs.find.get_entry.Tie as tie
 pub get-entry-spec : {M : Type 1} → statement M
 get-entry-spec =
     tie.close
-    (tie.spec (λ c κs. search needs) (λ c. search needs) (λ c. search needs) (λ c. search find-laws) (λ c κs. search find-laws)
-    (λ c. search find-laws))
+    (tie.spec (λ c κs. search needs) (λ c κs. search find-laws) (λ c. search find-laws))

@@ -7,6 +7,6 @@ use Rattle.space.proofs.find.lookup.Tie as tie
 pub lookup-spec : {M : Type 1} → statement M
 lookup-spec =
     tie.close
-    (tie.spec (λ c κs. search needs) (λ c κs. search needs) (λ c. search needs) (λ c. search needs) (λ c κs. search needs)
-    (λ c. search needs) (λ c. search lookup-laws) (λ c κs. search lookup-laws) (λ c κs. search lookup-laws) (λ c κs. search lookup-laws)
+    (tie.spec (λ c κs. search needs) (λ c κs. search needs) (λ c κs. search lookup-laws) (λ c. search needs) (λ c. search needs)
+    (λ c κs. search needs) (λ c. search needs) (λ c. search lookup-laws) (λ c κs. search lookup-laws) (λ c κs. search lookup-laws)
     (λ c. search needs) (λ c. search lookup-laws))
