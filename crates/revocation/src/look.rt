@@ -6,10 +6,12 @@ ghost use lib.ListN.{length, getD};
 ghost use Rattle.base.specs.Below.{all};
 ghost use Rattle.revocation.specs.Words.{pairAt, firstOf, reasonAt, queueAt, pidAt, lengthAt};
 ghost use Rattle.revocation.specs.Sound.{pairsTest, logTest, queueTest, apartTest, pidsDifferTest, queuesTest};
+use crate::queues::FIRST;
+use crate::queues::LENGTH;
+use crate::queues::PID;
+use crate::queues::QUEUE;
+use crate::queues::RING;
 use base::distinct::distinct;
-
-// The words of a queue.
-const QUEUE: usize = 771;
 
 // Whether a word is a pair: an id of 48 bits and a generation of 8.
 fn is_pair(word: u64) -> bool
@@ -50,8 +52,8 @@ fn reason_listed(qu: &[u64], i: usize) -> bool
     requires { ⌜ (771 ≤ length (now qu)) × (firstOf (now qu) < 256) × (i < 256) ⌝ }
     ensures { λ r. ⌜ r ≡ leb (reasonAt (now (qu .entry)) i) 3 ⌝ }
 {
-    let ring = (qu[1] as usize + i) % 256;
-    qu[3 + 3 * ring + 2] <= 3
+    let ring = (qu[FIRST] as usize + i) % 256;
+    qu[RING + 3 * ring + 2] <= 3
 }
 
 // Whether the n notices of a queue have listed reasons.
@@ -75,11 +77,11 @@ pub fn queue_sound(qu: &[u64]) -> bool
     requires { ⌜ 771 ≤ length (now qu) ⌝ }
     ensures { λ r. ⌜ r ≡ queueTest (now (qu .entry)) ⌝ }
 {
-    let n = qu[2];
+    let n = qu[LENGTH];
     if n == 0 {
         return true;
     }
-    if 256 <= qu[1] {
+    if 256 <= qu[FIRST] {
         return false;
     }
     if 256 < n {
@@ -119,10 +121,10 @@ fn apart(qs: &[u64], i: usize, j: usize) -> bool
     requires { ⌜ (i < j) × (j * 771 + 771 ≤ length (now qs)) × (0 < lengthAt (now qs) j) ⌝ }
     ensures { λ r. ⌜ r ≡ apartTest (pidAt (now (qs .entry))) (lengthAt (now (qs .entry))) i j ⌝ }
 {
-    if word_at(qs, i, 2) <= 0 {
+    if word_at(qs, i, LENGTH) == 0 {
         return true;
     }
-    word_at(qs, i, 0) != word_at(qs, j, 0)
+    word_at(qs, i, PID) != word_at(qs, j, PID)
 }
 
 // Whether j is no queue, or none before it has its pid.
@@ -130,7 +132,7 @@ fn pid_new(qs: &[u64], j: usize) -> bool
     requires { ⌜ j * 771 + 771 ≤ length (now qs) ⌝ }
     ensures { λ r. ⌜ r ≡ all j (λ i. apartTest (pidAt (now (qs .entry))) (lengthAt (now (qs .entry))) i j) ⌝ }
 {
-    if word_at(qs, j, 2) <= 0 {
+    if word_at(qs, j, LENGTH) == 0 {
         return true;
     }
     let mut i = 0;

@@ -6,6 +6,15 @@ ghost use Rattle.world.specs.Numbers.{numbersOf, inRangeTest};
 ghost use Rattle.world.specs.Numbers as spec;
 use crate::Numbers;
 
+// Words of the head behind the numbers: the next id, and how many are registered, recycled and logged.
+pub const NEXT: usize = 5;
+
+pub const REGISTERED: usize = 11;
+
+pub const RECYCLED: usize = 12;
+
+pub const LOGGED: usize = 13;
+
 // The numbers that memory was opened with: its first five words.
 pub fn numbers(mem: &[u64]) -> Numbers
     requires { ⌜ 16 ≤ length (now mem) ⌝ }

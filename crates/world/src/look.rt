@@ -13,6 +13,10 @@ ghost use Rattle.world.specs.Numbers.{registeredOf, InRange};
 ghost use Rattle.world.specs.Sound.{registeredIds, countsTest, headTest, spacesTest, holdingsTest, loggedTest, queuesTest, soundTest};
 ghost use Rattle.world.specs.SoundLaws.{Headed};
 use crate::Numbers;
+use crate::head::LOGGED;
+use crate::head::NEXT;
+use crate::head::RECYCLED;
+use crate::head::REGISTERED;
 use crate::head::in_range;
 use crate::head::numbers;
 use crate::regions::length_for;
@@ -30,19 +34,19 @@ fn counts_fit(mem: &[u64], d: Numbers) -> bool
     requires { ⌜ InRange d × (16 ≤ length (now mem)) ⌝ }
     ensures { λ r. ⌜ r ≡ countsTest d (now (mem .entry)) ⌝ }
 {
-    if d.places < mem[11] as usize {
+    if d.places < mem[REGISTERED] as usize {
         return false;
     }
-    if d.pairs < mem[13] as usize {
+    if d.pairs < mem[LOGGED] as usize {
         return false;
     }
-    if mem[5] < 1 {
+    if mem[NEXT] < 1 {
         return false;
     }
-    if 0x1_0000_0000_0000 < mem[5] {
+    if 0x1_0000_0000_0000 < mem[NEXT] {
         return false;
     }
-    mem[12] as usize <= d.places + 1
+    mem[RECYCLED] as usize <= d.places + 1
 }
 
 // The head's words: the numbers are in range, and the memory is long enough for them.
@@ -90,7 +94,7 @@ fn count_space(sp: &[u64], ids: &[u64], heads: &[u16], prevs: &[u16], counts: &m
         ⌝ }
 {
     let mut entries = [0u64; 512];
-    let n = live_ids(&sp[8..], sp[5] as usize, &mut entries);
+    let n = live_ids(&sp[space::TABLE..], sp[space::SLOTS] as usize, &mut entries);
     count_entries(ids, heads, prevs, &entries[..n], counts);
 }
 
@@ -163,8 +167,16 @@ fn holdings_by(
     let start = registry_at(d);
     let end = start + 5 * d.places + 1;
     let rg = &mem[start..end];
-    let n = mem[11] as usize;
-    if !registry_sound(rg, d.places, n, mem[12] as usize, mem[5], heads, prevs) {
+    let n = mem[REGISTERED] as usize;
+    if !registry_sound(
+        rg,
+        d.places,
+        n,
+        mem[RECYCLED] as usize,
+        mem[NEXT],
+        heads,
+        prevs,
+    ) {
         return false;
     }
     if !spaces_sound(mem, d, &rg[..n], heads, prevs, counts) {
@@ -178,7 +190,7 @@ fn holdings_sound(mem: &[u64], d: Numbers) -> bool
     requires { ⌜ Headed d (now mem) ⌝ }
     ensures { λ r. ⌜ r ≡ holdingsTest d (now (mem .entry)) ⌝ }
 {
-    if mem[11] <= 512 {
+    if mem[REGISTERED] <= 512 {
         let mut heads = [0u16; 2048];
         let mut prevs = [0u16; 512];
         let mut counts = [0u16; 512];
@@ -196,7 +208,7 @@ fn log_sound(mem: &[u64], d: Numbers) -> bool
 {
     let start = log_at(d);
     let end = start + d.pairs;
-    revocation::look::log_sound(&mem[start..end], mem[13] as usize)
+    revocation::look::log_sound(&mem[start..end], mem[LOGGED] as usize)
 }
 
 fn queues_sound(mem: &[u64], d: Numbers) -> bool

@@ -9,12 +9,14 @@ ghost use Rattle.world.specs.Numbers.{InRange};
 ghost use Rattle.world.specs.Open.{openHead, openSpace, openSpaces, openQueues, opened, recordTest, opening};
 ghost use Rattle.world.specs.Regions.{head, space, lengthFor, onRegion};
 use crate::Numbers;
+use crate::head::NEXT;
 use crate::head::in_range;
 use crate::regions::length_for;
 use crate::regions::queue_at;
 use crate::regions::space_at;
 use crate::regions::width;
 use answers::Answer;
+use revocation::queues::LENGTH;
 
 // Writes the words at the front of the slice.
 fn put_words(dst: &mut [u64], words: &[u64])
@@ -39,7 +41,7 @@ fn open_head(mem: &mut [u64], d: Numbers)
     words[2] = d.places as u64;
     words[3] = d.pairs as u64;
     words[4] = d.queues as u64;
-    words[5] = 1;
+    words[NEXT] = 1;
     put_words(mem, &words);
 }
 
@@ -74,7 +76,7 @@ fn open_queues(mem: &mut [u64], d: Numbers)
     let mut q = 0;
     while q < d.queues {
         let start = queue_at(d, q);
-        mem[start + 2] = 0;
+        mem[start + LENGTH] = 0;
         q += 1;
     }
 }

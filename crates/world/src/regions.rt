@@ -4,9 +4,7 @@ ghost use Prim.Native.Nat.{_<_};
 ghost use Rattle.world.specs.Numbers.{InRange};
 ghost use Rattle.world.specs.Regions.{space, registry, log, queue, widthOf, lengthFor, StartsAt};
 use crate::Numbers;
-
-// The words of a queue.
-const QUEUE: usize = 771;
+use revocation::queues::QUEUE;
 
 // The words of a space.
 pub fn width(d: Numbers) -> usize

@@ -20,7 +20,9 @@ abbrev μ-loop : tie.MeasureT-loop
 μ-loop qs p q₀ q = p - q
 
 -- What is lent of place q is its queue.
-tested : (qs : List ℕ) (q : ℕ) (r : Bool) → r ≡ queueTest (take ((q * 771 + 771) - q * 771) (drop (q * 771) qs)) → r ≡ queueTest (queueAt qs q)
+tested :
+    (qs : List ℕ) (q : ℕ) (r : Bool) → r ≡ queueTest (take ((q * 771 + 771) - q * 771) (drop (q * 771) qs))
+    → r ≡ queueTest (queueAt qs q)
 tested qs q r e = rw add-sub-cancel-left at e
 
 ruleset laws = (needs, all-tests, tested)

@@ -19,7 +19,7 @@ use Rattle.revocation.proofs.look.pid_new.Tie as tie
 abbrev others : List ℕ → ℕ → ℕ → Bool
 others qs j i = apartTest (pidAt qs) (lengthAt qs) i j
 
-free : (qs : List ℕ) (j long : ℕ) → long ≡ getD (queueAt qs j) 2 0 → long ≤ 0 → true ≡ all j (others qs j)
+free : (qs : List ℕ) (j long : ℕ) → long ≡ getD (queueAt qs j) 2 0 → long ≡ 0 → true ≡ all j (others qs j)
 free qs j long e none =
     sym (all-make j (others qs j) (λ i l. rw (le-ltb 0 (lengthAt qs j) (omega arith), both-false (ltb 0 (lengthAt qs i)))))
 

@@ -10,8 +10,4 @@ pub length-for-spec : {M : Type 1} → statement M
 unfolding startOf lengthFor
 length-for-spec =
     tie.close
-    (tie.spec
-    (λ c κs. search needs)
-    (λ c. search needs)
-    (λ c. omega (arith, length-le _ (c .before .before .pre)))
-    (λ c. search needs))
+    (tie.spec (λ c κs. search needs) (λ c. search needs) (λ c. omega (arith, length-le _ (c .before .before .pre))) (λ c. search needs))

@@ -10,9 +10,5 @@ pub queue-at-spec : {M : Type 1} → statement M
 unfolding startOf lengthFor
 queue-at-spec =
     tie.close
-    (tie.spec
-    (λ c κs. search needs)
-    (λ c. omega (arith, length-le _ (c .before .before .pre .0)))
-    (λ c. search needs)
-    (λ c. omega (arith, length-le _ (c .before .before .pre .0)))
-    (λ c. search needs))
+    (tie.spec (λ c κs. search needs) (λ c. omega (arith, length-le _ (c .before .before .pre .0))) (λ c. search needs)
+    (λ c. omega (arith, length-le _ (c .before .before .pre .0))) (λ c. search needs))

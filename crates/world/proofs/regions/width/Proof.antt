@@ -9,8 +9,5 @@ pub width-spec : {M : Type 1} → statement M
 unfolding widthOf
 width-spec =
     tie.close
-    (tie.spec
-    (λ c κs. omega (arith, c .pre .most))
-    (λ c. omega (arith, c .slots-for .ensures))
-    (λ c. omega (arith, c .slots-for .ensures))
+    (tie.spec (λ c κs. omega (arith, c .pre .most)) (λ c. omega (arith, c .slots-for .ensures)) (λ c. omega (arith, c .slots-for .ensures))
     (λ c. omega (arith, c .slots-for .ensures)))
