@@ -16,7 +16,7 @@ use Rattle.table.proofs.laws.Exact.{search-at}
 use Rattle.token.specs.Token.{idOf}
 use Rattle.space.specs.Words.{hitsOf, missesOf, tableOf, slotWords, InRange, SlotOf}
 use Rattle.space.specs.Lookup.{up, isFound, searchId, wholly, exactly, exactSearch, SearchOf, entryOf, lookedUp, gotEntry, withUse, countedAt, counted}
-use Rattle.space.specs.Counters.{oneMore, countersOf, withCounters, countedSearch}
+use Rattle.space.specs.Counters.{oneCounted, countersOf, withCounters, countedSearch}
 use Rattle.space.specs.declared.LookedUp.{LookedUp}
 use Rattle.space.specs.declared.counters.CountedSearch.{CountedSearch}
 use Rattle.space.specs.declared.counters.Counters.{Counters}
@@ -95,11 +95,11 @@ module _ (sp : List ℕ) (token : ℕ) (c : Counters) (r : CountedSearch) (was :
   ended : (f : Found) → r .search .found ≡ f → exactly sp token ≡ f
   ended f e = sym (ap (λ (r : CountedSearch). r .search .found) is) ∙ e
 
-  lent-counters : (f : Found) → r .search .found ≡ f → r .counters ≡ oneMore (countersOf sp) (isFound f)
+  lent-counters : (f : Found) → r .search .found ≡ f → r .counters ≡ oneCounted (countersOf sp) (isFound f)
   lent-counters f e =
       ap (λ (r : CountedSearch). r .counters) is
-      ∙ ap (λ (c : Counters). oneMore c (isFound (exactly sp token))) was
-      ∙ ap (λ (f : Found). oneMore (countersOf sp) (isFound f)) (ended f e)
+      ∙ ap (λ (c : Counters). oneCounted c (isFound (exactly sp token))) was
+      ∙ ap (λ (f : Found). oneCounted (countersOf sp) (isFound f)) (ended f e)
 
   pub counts-miss : (after : List ℕ) → r .search .found ≡ Absent → after ≡ withCounters sp (r .counters) → after ≡ counted sp token
   unfolding counted withCounters

@@ -10,9 +10,9 @@ use Rattle.space.specs.declared.counters.CountedSearch.{CountedSearch}
 use Rattle.space.specs.declared.counters.Counters.{Counters}
 
 -- One hit more, or one miss more.
-abbrev pub oneMore : Counters → Bool → Counters
-oneMore c true = record { hits = up (c .hits); misses = c .misses }
-oneMore c false = record { hits = c .hits; misses = up (c .misses) }
+abbrev pub oneCounted : Counters → Bool → Counters
+oneCounted c true = record { hits = up (c .hits); misses = c .misses }
+oneCounted c false = record { hits = c .hits; misses = up (c .misses) }
 
 -- The record of a space's two words, and the space with another in their place.
 abbrev pub countersOf : List ℕ → Counters
@@ -26,4 +26,4 @@ abbrev pub searchAnd : Search → Counters → CountedSearch
 searchAnd s c = record { search = s; counters = c }
 
 abbrev pub countedSearch : List ℕ → ℕ → Counters → CountedSearch
-countedSearch sp token c = searchAnd (exactSearch sp token) (oneMore c (isFound (exactly sp token)))
+countedSearch sp token c = searchAnd (exactSearch sp token) (oneCounted c (isFound (exactly sp token)))

@@ -10,6 +10,7 @@ use super::find::entry_of;
 use super::find::exact;
 use super::find::is_found;
 use super::find::search_id;
+use super::words::TABLE;
 use super::words::generation;
 use super::words::put_generation;
 use super::words::put_table;
@@ -36,7 +37,7 @@ fn accept(sp: &mut [u64], entry: CapabilityEntry) -> usize
     ensures { λ r. ⌜ r ≡ insertedTable (now (sp .entry)) entry .moved ⌝ }
 {
     let t = table_of(sp);
-    let s = table::insert_new(&mut sp[8..], t, entry);
+    let s = table::insert_new(&mut sp[TABLE..], t, entry);
     let after = s.table;
     put_table(sp, after);
     s.moved
@@ -72,7 +73,7 @@ fn remove_slot(sp: &mut [u64], i: usize)
     ensures { λ _. ⌜ now (sp .exit) ≡ removed (now (sp .entry)) i ⌝ }
 {
     let t = table_of(sp);
-    let s = table::remove_at(&mut sp[8..], t, i);
+    let s = table::remove_at(&mut sp[TABLE..], t, i);
     let after = s.table;
     put_table(sp, after);
 }

@@ -5,6 +5,7 @@ ghost use lib.ListN.{length};
 ghost use Rattle.table.specs.Insert.{holds, gathered};
 ghost use Rattle.space.specs.Words.{wordsFor, tableOf, slotWords, InRange};
 ghost use Rattle.space.specs.Copy.{replacement, replaced};
+use super::words::TABLE;
 use super::words::put_generation;
 use super::words::put_table;
 use super::words::table_capacity;
@@ -17,7 +18,7 @@ pub fn gather(sp: &[u64], scratch: &mut [u64; 2048]) -> usize
         ≡ gathered (slotWords (now (sp .entry))) 0 (tableOf (now (sp .entry)) .slots) (holds (now (scratch .entry)) 0)
         ⌝ }
 {
-    table::gather(&sp[8..], table_capacity(sp), scratch)
+    table::gather(&sp[TABLE..], table_capacity(sp), scratch)
 }
 
 // The space takes the scratch's first `count` entries for its own, whatever it held, and the generation; the answer is the moves.
@@ -26,7 +27,7 @@ pub fn replace(sp: &mut [u64], scratch: &[u64; 2048], count: usize, generation: 
     ensures { λ _. ⌜ now (sp .exit) ≡ replaced (now (sp .entry)) (now (scratch .entry)) count generation ⌝ }
     ensures { λ r. ⌜ r ≡ replacement (now (sp .entry)) (now (scratch .entry)) count .moved ⌝ }
 {
-    let s = table::copy_from(&mut sp[8..], scratch, count);
+    let s = table::copy_from(&mut sp[TABLE..], scratch, count);
     let after = s.table;
     put_table(sp, after);
     put_generation(sp, generation);

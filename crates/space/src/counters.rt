@@ -2,7 +2,7 @@
 // of the space, and no reference to a record can point into a slice of words. So the record stands in a local while it is lent.
 ghost use mathlib.Core.Path.{_≡_};
 ghost use Rattle.space.specs.Words.{InRange};
-ghost use Rattle.space.specs.Counters.{oneMore, searchAnd, countedSearch};
+ghost use Rattle.space.specs.Counters.{oneCounted, searchAnd, countedSearch};
 use super::find::exact;
 use super::find::is_found;
 use table::Search;
@@ -20,7 +20,7 @@ pub struct CountedSearch {
 }
 
 fn counted(c: Counters, hit: bool) -> Counters
-    ensures { λ r. ⌜ r ≡ oneMore c hit ⌝ }
+    ensures { λ r. ⌜ r ≡ oneCounted c hit ⌝ }
 {
     if hit {
         return Counters {
@@ -36,7 +36,7 @@ fn counted(c: Counters, hit: bool) -> Counters
 
 // One hit or one miss more, where the record stands.
 fn count(c: &mut Counters, hit: bool)
-    ensures { λ _. ⌜ now (c .exit) ≡ oneMore (now (c .entry)) hit ⌝ }
+    ensures { λ _. ⌜ now (c .exit) ≡ oneCounted (now (c .entry)) hit ⌝ }
 {
     *c = counted(*c, hit);
 }

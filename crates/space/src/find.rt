@@ -7,6 +7,7 @@ ghost use Rattle.space.specs.Words.{tableOf, slotWords, InRange, SlotOf}
 ghost use Rattle.space.specs.Lookup.{isFound, searchId, SearchOf, entryOf, wholly, exactSearch, counted, lookedUp, gotEntry, withUse};
 use super::LookedUp;
 use super::counters::lend;
+use super::words::TABLE;
 use super::words::counters_of;
 use super::words::put_counters;
 use super::words::table_capacity;
@@ -21,7 +22,7 @@ pub fn search_id(sp: &[u64], id: u64) -> Search
     requires { ⌜ InRange (now sp) ⌝ }
     ensures { λ r. ⌜ r ≡ searchId (now (sp .entry)) id ⌝ }
 {
-    table::find(&sp[8..], table_capacity(sp), id)
+    table::find(&sp[TABLE..], table_capacity(sp), id)
 }
 
 pub fn is_found(s: Search) -> bool
@@ -38,7 +39,7 @@ fn entry_at(sp: &[u64], i: usize) -> CapabilityEntry
     requires { ⌜ SlotOf (now sp) i ⌝ }
     ensures { λ r. ⌜ r ≡ entryAt (slotWords (now (sp .entry))) i ⌝ }
 {
-    table::entry_at(&sp[8..], i)
+    table::entry_at(&sp[TABLE..], i)
 }
 
 // What a search answers: the entry of the slot where it ended, and its visits.
@@ -64,7 +65,7 @@ fn whole(sp: &[u64], token: u64, i: usize) -> Found
     requires { ⌜ SlotOf (now sp) i ⌝ }
     ensures { λ r. ⌜ r ≡ wholly (now (sp .entry)) token (Found.At i) ⌝ }
 {
-    if sp[8 + 4 * i] == token {
+    if sp[TABLE + 4 * i] == token {
         return Found::At(i);
     }
     Found::Absent
@@ -90,7 +91,7 @@ fn count_use(sp: &mut [u64], i: usize)
     requires { ⌜ SlotOf (now sp) i ⌝ }
     ensures { λ _. ⌜ now (sp .exit) ≡ withUse (now (sp .entry)) i ⌝ }
 {
-    let at = 8 + 4 * i + 2;
+    let at = TABLE + 4 * i + 2;
     sp[at] = std::num::wrapping_add_u64(sp[at], 1);
 }
 
@@ -128,5 +129,5 @@ pub fn nth_entry(sp: &[u64], n: usize) -> Nth
     requires { ⌜ InRange (now sp) ⌝ }
     ensures { λ r. ⌜ r ≡ nthOf (liveEntries (slotWords (now (sp .entry))) 0 (tableOf (now (sp .entry)) .slots)) n ⌝ }
 {
-    table::nth_entry(&sp[8..], table_capacity(sp), n)
+    table::nth_entry(&sp[TABLE..], table_capacity(sp), n)
 }

@@ -4,6 +4,7 @@ ghost use Prim.Native.Nat.{_≤_};
 ghost use lib.ListN.{length, take};
 ghost use Rattle.space.specs.Words.{InRange};
 ghost use Rattle.space.specs.Ids.{entryIds};
+use super::words::TABLE;
 use super::words::table_capacity;
 use table::Slot;
 
@@ -16,7 +17,7 @@ pub fn entry_ids(sp: &[u64], ids: &mut [u64]) -> usize
     let mut count = 0;
     let mut i = 0;
     while i < slots {
-        let Slot::Full(entry) = table::slot_at(&sp[8..], i) else {
+        let Slot::Full(entry) = table::slot_at(&sp[TABLE..], i) else {
             i += 1;
             continue;
         };

@@ -21,6 +21,8 @@ pub use find::nth_entry;
 pub use ids::entry_ids;
 pub use sound::is_sound;
 use table::Got;
+pub use words::SLOTS;
+pub use words::TABLE;
 pub use words::generation;
 pub use words::hits;
 pub use words::misses;

@@ -7,32 +7,49 @@ ghost use Rattle.space.specs.Counters.{countersOf, withCounters};
 use super::counters::Counters;
 use table::CapTable;
 
+pub const QUOTA: usize = 0;
+
+pub const GENERATION: usize = 1;
+
+const HITS: usize = 2;
+
+const MISSES: usize = 3;
+
+pub const SLOTS: usize = 5;
+
+const LIVE: usize = 6;
+
+const REMOVED: usize = 7;
+
+// Where the slots of the table begin.
+pub const TABLE: usize = 8;
+
 pub fn quota(sp: &[u64]) -> usize
     requires { ⌜ InRange (now sp) ⌝ }
     ensures { λ r. ⌜ r ≡ quotaOf (now (sp .entry)) ⌝ }
 {
-    sp[0] as usize
+    sp[QUOTA] as usize
 }
 
 pub fn generation(sp: &[u64]) -> u8
     requires { ⌜ InRange (now sp) ⌝ }
     ensures { λ r. ⌜ r ≡ generationOf (now (sp .entry)) ⌝ }
 {
-    sp[1] as u8
+    sp[GENERATION] as u8
 }
 
 pub fn hits(sp: &[u64]) -> u64
     requires { ⌜ InRange (now sp) ⌝ }
     ensures { λ r. ⌜ r ≡ hitsOf (now (sp .entry)) ⌝ }
 {
-    sp[2]
+    sp[HITS]
 }
 
 pub fn misses(sp: &[u64]) -> u64
     requires { ⌜ InRange (now sp) ⌝ }
     ensures { λ r. ⌜ r ≡ missesOf (now (sp .entry)) ⌝ }
 {
-    sp[3]
+    sp[MISSES]
 }
 
 // The two counters as one record, and one stored in their place.
@@ -41,8 +58,8 @@ pub fn counters_of(sp: &[u64]) -> Counters
     ensures { λ r. ⌜ r ≡ countersOf (now (sp .entry)) ⌝ }
 {
     Counters {
-        hits: sp[2],
-        misses: sp[3],
+        hits: sp[HITS],
+        misses: sp[MISSES],
     }
 }
 
@@ -50,8 +67,8 @@ pub fn put_counters(sp: &mut [u64], c: Counters)
     requires { ⌜ 8 ≤ length (now sp) ⌝ }
     ensures { λ _. ⌜ now (sp .exit) ≡ withCounters (now (sp .entry)) c ⌝ }
 {
-    sp[2] = c.hits;
-    sp[3] = c.misses;
+    sp[HITS] = c.hits;
+    sp[MISSES] = c.misses;
 }
 
 // Slots allocated by the table.
@@ -59,7 +76,7 @@ pub fn table_capacity(sp: &[u64]) -> usize
     requires { ⌜ InRange (now sp) ⌝ }
     ensures { λ r. ⌜ r ≡ tableOf (now (sp .entry)) .slots ⌝ }
 {
-    sp[5] as usize
+    sp[SLOTS] as usize
 }
 
 // The current number of capabilities; the source's `total_caps` is the same word.
@@ -67,7 +84,7 @@ pub fn used(sp: &[u64]) -> usize
     requires { ⌜ InRange (now sp) ⌝ }
     ensures { λ r. ⌜ r ≡ tableOf (now (sp .entry)) .full ⌝ }
 {
-    sp[6] as usize
+    sp[LIVE] as usize
 }
 
 pub fn table_of(sp: &[u64]) -> CapTable
@@ -75,9 +92,9 @@ pub fn table_of(sp: &[u64]) -> CapTable
     ensures { λ r. ⌜ r ≡ tableOf (now (sp .entry)) ⌝ }
 {
     CapTable {
-        slots: sp[5] as usize,
-        full: sp[6] as usize,
-        tombstones: sp[7] as usize,
+        slots: sp[SLOTS] as usize,
+        full: sp[LIVE] as usize,
+        tombstones: sp[REMOVED] as usize,
     }
 }
 
@@ -85,14 +102,14 @@ pub fn put_table(sp: &mut [u64], t: CapTable)
     requires { ⌜ 8 ≤ length (now sp) ⌝ }
     ensures { λ _. ⌜ now (sp .exit) ≡ withCounts (now (sp .entry)) t ⌝ }
 {
-    sp[5] = t.slots as u64;
-    sp[6] = t.full as u64;
-    sp[7] = t.tombstones as u64;
+    sp[SLOTS] = t.slots as u64;
+    sp[LIVE] = t.full as u64;
+    sp[REMOVED] = t.tombstones as u64;
 }
 
 pub fn put_generation(sp: &mut [u64], generation: u8)
     requires { ⌜ 8 ≤ length (now sp) ⌝ }
     ensures { λ _. ⌜ now (sp .exit) ≡ set (now (sp .entry)) 1 generation ⌝ }
 {
-    sp[1] = generation as u64;
+    sp[GENERATION] = generation as u64;
 }

@@ -114,7 +114,8 @@ module _ (most : ℕ) (sp after : List ℕ) (token : ℕ) (s : SpaceOf most sp) 
 
   -- Where the same entries are, what was answered is.
   pub answered-as-before :
-      ((x : CapabilityEntry) → tokenOf x ≡ token → Has (view after) x ↔ Has (view sp) x) → lookedUp after token .got ≡ lookedUp sp token .got
+      ((x : CapabilityEntry) → tokenOf x ≡ token → Has (view after) x ↔ Has (view sp) x)
+      → lookedUp after token .got ≡ lookedUp sp token .got
   answered-as-before same = answered-as (λ x. x) (λ x. refl) same ∙ go (lookedUp sp token .got)
     where
       go : (g : Got) → gotAs (λ x. x) g ≡ g

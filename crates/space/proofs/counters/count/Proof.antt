@@ -37,7 +37,7 @@ use denote.Triple.Table.{entered, cited}
 use denote.Triple.Walked.{says, Stays, stay-ref, stay-none, walkOf, goes-none, goes-ref, Walks, ends-at, walked, walk-meets}
 use denote.Exit.{yes}
 use denote.Triple.Clauses.{ensured, lasts}
-use Rattle.space.specs.Counters.{oneMore}
+use Rattle.space.specs.Counters.{oneCounted}
 use Rattle.space.specs.declared.counters.Counters.{Counters}
 use Rattle.space.proofs.Walk.{rowOf, valueOf, fits, known, spelled, counters}
 use Rattle.space.proofs.counters.counted as counted
@@ -89,14 +89,14 @@ module _ {M : Type 1} (𝓤 : URA M) (H : Heap 𝓤) (A : Atoms 𝓤) (W : Given
     abbrev Ensured : Counters → SProp 𝓤
     Ensured = ensured 𝓤 H A counted.ended (counted.clauses 𝓤 H A at-mem run) tt (h, (hit, tt)) tt
 
-    said : (r : Counters) → ent 𝓤 (Ensured r) (fact 𝓤 (r ≡ oneMore h hit))
-    said r = exE 𝓤 _ (λ ws. snd∗ 𝓤 (sem 𝓤 H A (lasts counted.ended tt (h, (hit, tt)) ws)) (fact 𝓤 (r ≡ oneMore h hit)))
+    said : (r : Counters) → ent 𝓤 (Ensured r) (fact 𝓤 (r ≡ oneCounted h hit))
+    said r = exE 𝓤 _ (λ ws. snd∗ 𝓤 (sem 𝓤 H A (lasts counted.ended tt (h, (hit, tt)) ws)) (fact 𝓤 (r ≡ oneCounted h hit)))
 
     -- what is had at the end
     abbrev Left : Counters → List (Item 𝓤)
     Left r = ‵ (fobs γ (R .coded .code r)) ∷ ‵ (fbor κ (Body (mem R) b o γ)) ∷ ‵ (flft κ q) ∷ []
 
-    exits : (r : Counters) → r ≡ oneMore h hit → ent 𝓤 (⋆ 𝓤 H A (Left r)) (Post vunit)
+    exits : (r : Counters) → r ≡ oneCounted h hit → ent 𝓤 (⋆ 𝓤 H A (Left r)) (Post vunit)
     exits r e =
         qed W (Left r) ∵
         suffices ! _ (ends-at 𝓤 H A count.ended stayed (count.clauses 𝓤 H A at-mem run) W bound vunit tt (r, (tt, tt)) (tt, (tt, tt))) $
@@ -123,7 +123,7 @@ module _ {M : Type 1} (𝓤 : URA M) (H : Heap 𝓤) (A : Atoms 𝓤) (W : Given
           (and-then ! (load ! (from ! (stop !)) (look ! 5 refl)) (and-then ! (load ! (from ! (stop !)) (look ! 9 refl)) (no-more !))) (λ v.
           use1 W (later (some (λ (r : Counters). (‵ ftrue ⊛ ‵ (R .own r (v ∷ []))) ⊛ raw (Ensured r)))) (id⊢ 𝓤 _) $ await ! tt $ pick !
           (λ r.
-          split ! $ move ! (1 ∷ []) $ use1 W (raw (fact 𝓤 (r ≡ oneMore h hit))) (said r) $ heard ! (r ≡ oneMore h hit) (λ e.
+          split ! $ move ! (1 ∷ []) $ use1 W (raw (fact 𝓤 (r ≡ oneCounted h hit))) (said r) $ heard ! (r ≡ oneCounted h hit) (λ e.
           split ! $ drop ! $ known ! counters r v (λ is.
           -- [what the new record owns; the cell; the open borrow; obs; auth; _4; …; room for _3; …; _2; …; _1; …; room for _0; …]
           land ! (from ! (stop !)) (init ! 7 refl (fits 𝓤 H A W counters r v is .0)) $

@@ -41,7 +41,7 @@ use Rattle.table.specs.declared.Search.{Search}
 use Rattle.token.specs.declared.capability.CapabilityToken.{CapabilityToken}
 use Rattle.space.specs.Words.{InRange}
 use Rattle.space.specs.Lookup.{isFound, exactSearch}
-use Rattle.space.specs.Counters.{oneMore, searchAnd, countedSearch}
+use Rattle.space.specs.Counters.{oneCounted, searchAnd, countedSearch}
 use Rattle.space.specs.declared.counters.Counters.{Counters}
 use Rattle.space.proofs.Walk.{rowOf, valueOf, fits, known, anew, counters, tokens, searches}
 use Rattle.space.proofs.find.exact as exact
@@ -166,11 +166,11 @@ module _ {M : Type 1} (𝓤 : URA M) (H : Heap 𝓤) (A : Atoms 𝓤) (W : Given
     abbrev Count-ensured : Bool → Unit {0} → SProp 𝓤
     Count-ensured y = ensured 𝓤 H A count.ended (count.clauses 𝓤 H A at-mem run) (κ′, tt) (c, (y, tt)) tt
 
-    count-said : (y : Bool) (z : Unit {0}) → ent 𝓤 (Count-ensured y z) (Last (oneMore h y))
+    count-said : (y : Bool) (z : Unit {0}) → ent 𝓤 (Count-ensured y z) (Last (oneCounted h y))
     count-said y z = exE 𝓤 _ (λ ws.
         let L : SProp 𝓤 = sem 𝓤 H A (lasts count.ended (κ′, tt) (c, (y, tt)) ws) in
-        let E : SProp 𝓤 = fact 𝓤 (ws .0 ≡ oneMore h y) in
-        fact-use 𝓤 (ws .0 ≡ oneMore h y) (snd∗ 𝓤 L E) (λ e.
+        let E : SProp 𝓤 = fact 𝓤 (ws .0 ≡ oneCounted h y) in
+        fact-use 𝓤 (ws .0 ≡ oneCounted h y) (snd∗ 𝓤 L E) (λ e.
         subst (λ (w : Counters). ent 𝓤 (sep 𝓤 L E) (Last w)) e
         (via 𝓤 L (fst∗ 𝓤 L E) (fst∗ 𝓤 (Last (ws .0)) (sep 𝓤 (emp 𝓤) (emp 𝓤))))))
 
@@ -227,7 +227,7 @@ module _ {M : Type 1} (𝓤 : URA M) (H : Heap 𝓤) (A : Atoms 𝓤) (W : Given
           (to-count y u′)
           (and-then ! (load ! (from ! (stop !)) (look ! 5 refl)) (and-then ! (load ! (from ! (stop !)) (look ! 3 refl)) (no-more !))) (λ u″.
           use1 W (later (some (λ (z : Unit {0}). (Lives-c ⊛ ‵ (Nothing .own z (u″ ∷ []))) ⊛ raw (Count-ensured y z)))) (id⊢ 𝓤 _) $
-          await ! tt $ pick ! (λ z. split ! $ move ! (1 ∷ []) $ use1 W (‵ (fres γ (R .coded .code (oneMore h y)))) (count-said y z) $
+          await ! tt $ pick ! (λ z. split ! $ move ! (1 ∷ []) $ use1 W (‵ (fres γ (R .coded .code (oneCounted h y)))) (count-said y z) $
           move ! (1 ∷ []) $ split ! $ move ! (1 ∷ []) $ feqL ! (λ e″.
           -- [the reference's lifetime; its last value; the slice's lifetime; true; _7; …; _0; …; the slice; ..]
           land ! (from ! (stop !)) (init ! 8 refl (subst (λ (v : Val). Holds (hasTy tyUnit v) × WT v) (sym (ap only e″)) (tt, tt))) $
@@ -239,7 +239,7 @@ module _ {M : Type 1} (𝓤 : URA M) (H : Heap 𝓤) (A : Atoms 𝓤) (W : Given
           (8 ∷ 9 ∷ []) $ free1 ! $
           move ! (6 ∷ 7 ∷ []) $ free1 ! $ move ! (4 ∷ 5 ∷ []) $ free1 ! $ free0 ! $ anew ! searches r u is $ keep !
           (0 ∷ 3 ∷ 1 ∷ 5 ∷ 2 ∷ []) $
-          by ! (exits r u (oneMore h y) is-t cc))))))))))))))))))))
+          by ! (exits r u (oneCounted h y) is-t cc))))))))))))))))))))
 
   walks : (C : Calls 𝓤 H) (Λ : Loops 𝓤 H) → FmC 𝓤 H (W .laws) C
       → Triple 𝓤 (C #exact) Exact → Triple 𝓤 (C #is-found) IsFound → Triple 𝓤 (C #count) Count
