@@ -51,8 +51,8 @@ abbrev pub capacityTest : ℕ → ℕ → Bool
 capacityTest most slots =
     pick (eqb slots 0) true (both (leb 8 slots) (both (leb slots (slotsFor most)) (eqb (nextPower slots) slots)))
 
-abbrev pub countsTest : List ℕ → CapTable → Bool
-countsTest ws t =
+abbrev pub agreeTest : List ℕ → CapTable → Bool
+agreeTest ws t =
     both (eqb (sum (λ i. one (isLive ws i)) (t .slots)) (t .full)) (eqb (sum (λ i. one (isRemoved ws i)) (t .slots)) (t .tombstones))
 
 abbrev pub roomTest : CapTable → Bool
@@ -61,8 +61,8 @@ roomTest t = leb (4 * (t .full + t .tombstones)) (3 * t .slots)
 abbrev pub unusedTest : CapTable → Bool
 unusedTest t = pick (eqb (t .full) 0) (eqb (t .slots) 0) true
 
-abbrev pub withinTest : ℕ → CapTable → Bool
-withinTest most t = leb (t .full) most
+abbrev pub mostTest : ℕ → CapTable → Bool
+mostTest most t = leb (t .full) most
 
 -- Ids differ and each entry is met on its own walk where a search of the id of each live slot ends at that slot.
 abbrev pub endsAt : Found → ℕ → Bool
@@ -82,7 +82,7 @@ unfoldable pub soundTest : ℕ → List ℕ → CapTable → Bool
 soundTest most ws t =
     both (codedTest ws (t .slots))
     (both (capacityTest most (t .slots))
-    (both (countsTest ws t) (both (roomTest t) (both (unusedTest t) (both (withinTest most t) (foundTest ws (t .slots)))))))
+    (both (agreeTest ws t) (both (roomTest t) (both (unusedTest t) (both (mostTest most t) (foundTest ws (t .slots)))))))
 
 -- The numbers of the live ones of the first n slots, over what stood there: the look lists them first, and searches then.
 unfoldable pub liveSlots : List ℕ → ℕ → List ℕ → List ℕ

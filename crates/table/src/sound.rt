@@ -8,7 +8,7 @@ ghost use Rattle.base.specs.Below.{all, one};
 ghost use Rattle.base.specs.Choose.{both};
 ghost use Rattle.table.specs.Slots.{kindAt};
 ghost use Rattle.table.specs.Insert.{slotsFor};
-ghost use Rattle.table.specs.Sound.{endsAt, endsHere, codedAt, codedTest, capacityTest, countsTest, roomTest, unusedTest, withinTest, foundTest, liveSlots, soundTest};
+ghost use Rattle.table.specs.Sound.{endsAt, endsHere, codedAt, codedTest, capacityTest, agreeTest, roomTest, unusedTest, mostTest, foundTest, liveSlots, soundTest};
 use super::CapTable;
 use super::Found;
 use super::insert::slots_for;
@@ -39,7 +39,7 @@ fn is_capacity(slots: usize, most: usize) -> bool
 // The counts among themselves. They may be any numbers, so each is held to a bound of its own before the sum is made.
 fn counts_fit(t: CapTable, most: usize) -> bool
     requires { ⌜ (t .slots ≤ 512) × (most ≤ 256) ⌝ }
-    ensures { λ r. ⌜ r ≡ both (roomTest t) (both (unusedTest t) (withinTest most t)) ⌝ }
+    ensures { λ r. ⌜ r ≡ both (roomTest t) (both (unusedTest t) (mostTest most t)) ⌝ }
 {
     if most < t.full {
         return false;
@@ -100,7 +100,7 @@ fn one_coded(words: &[u64], i: usize) -> usize
 // follow no pattern, and a search in this loop, which would branch by them, would be mispredicted every other time.
 fn kinds_sound(words: &[u64], t: CapTable, live: &mut [u16; 512]) -> bool
     requires { ⌜ (t .slots ≤ 512) × (4 * t .slots ≤ length (now words)) ⌝ }
-    ensures { λ r. ⌜ r ≡ both (codedTest (now (words .entry)) (t .slots)) (countsTest (now (words .entry)) t) ⌝ }
+    ensures { λ r. ⌜ r ≡ both (codedTest (now (words .entry)) (t .slots)) (agreeTest (now (words .entry)) t) ⌝ }
     ensures { λ r. ⌜ now (live .exit) ≡ liveSlots (now (words .entry)) (t .slots) (now (live .entry)) ⌝ }
 {
     let slots = t.slots;
@@ -147,7 +147,7 @@ fn slots_sound(words: &[u64], t: CapTable) -> bool
     ensures { λ r. ⌜
         r
         ≡ both (codedTest (now (words .entry)) (t .slots))
-        (both (countsTest (now (words .entry)) t) (foundTest (now (words .entry)) (t .slots)))
+        (both (agreeTest (now (words .entry)) t) (foundTest (now (words .entry)) (t .slots)))
         ⌝ }
 {
     let mut live = [0u16; 512];

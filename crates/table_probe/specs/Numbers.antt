@@ -55,17 +55,17 @@ abbrev pub ended : Search → Ended
 ended s = record { at = place (s .found); visits = s .visits }
 
 -- Whether there is an entry, and what its four words hold afterwards; with none they stay.
-pub record Answered : Type 0 where
+pub record EntryOut : Type 0 where
   pub there : Bool
   pub entry : List ℕ
 
-abbrev pub answers : Bool → List ℕ → Answered
+abbrev pub answers : Bool → List ℕ → EntryOut
 answers there entry = record { there = there; entry = entry }
 
-abbrev pub gotWords : List ℕ → Got → Answered
+abbrev pub gotWords : List ℕ → Got → EntryOut
 gotWords out (Got.Entry e) = answers true (entryWords out e)
 gotWords out Nothing = answers false out
 
-abbrev pub nthWords : List ℕ → Nth → Answered
+abbrev pub nthWords : List ℕ → Nth → EntryOut
 nthWords out (Nth.Entry e) = answers true (entryWords out e)
 nthWords out Past = answers false out

@@ -14,7 +14,7 @@ use Rattle.base.specs.FirstLaws.{first-before}
 use Rattle.table.specs.Slots.{idAt}
 use Rattle.table.specs.Walk.{walk, stops, stepsToStop}
 use Rattle.table.specs.Insert.{slotsFor}
-use Rattle.table.specs.Sound.{Capacity, no-slots, some-slots, Sound, endsAt, codedTest, capacityTest, roomTest, unusedTest, withinTest, foundTest, soundTest}
+use Rattle.table.specs.Sound.{Capacity, no-slots, some-slots, Sound, endsAt, codedTest, capacityTest, roomTest, unusedTest, mostTest, foundTest, soundTest}
 use Rattle.table.specs.declared.CapTable.{CapTable}
 use Rattle.table.specs.declared.Found.{Found}
 use Rattle.table.specs.declared.Found.the-variants.{At, Absent}
@@ -52,7 +52,7 @@ room-exactly t = simp tests Iff·rfl
 pub unused-exactly : (t : CapTable) → (unusedTest t ≡ true) ↔ (t .full ≡ 0 → t .slots ≡ 0)
 unused-exactly t = simp tests Iff·rfl
 
-pub within-exactly : (most : ℕ) (t : CapTable) → (withinTest most t ≡ true) ↔ (t .full ≤ most)
+pub within-exactly : (most : ℕ) (t : CapTable) → (mostTest most t ≡ true) ↔ (t .full ≤ most)
 within-exactly most t = simp tests Iff·rfl
 
 -- A search that ends at j found it.

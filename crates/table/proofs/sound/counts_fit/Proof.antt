@@ -7,13 +7,13 @@ use borrow.Author.Needs.{needs}
 use borrow.Author.Tests.{eq-eqb, ne-eqb, le-leb, lt-leb}
 use lib.Dec.{eqb}
 use Rattle.base.specs.Choose.{both, both-true, both-false}
-use Rattle.table.specs.Sound.{roomTest, unusedTest, withinTest}
+use Rattle.table.specs.Sound.{roomTest, unusedTest, mostTest}
 use Rattle.table.specs.declared.CapTable.{CapTable}
 use Rattle.table.proofs.sound.counts_fit.Statement.{statement}
 use Rattle.table.proofs.sound.counts_fit.Tie as tie
 
 abbrev fit : ℕ → CapTable → Bool
-fit most t = both (roomTest t) (both (unusedTest t) (withinTest most t))
+fit most t = both (roomTest t) (both (unusedTest t) (mostTest most t))
 
 module _ (most : ℕ) (t : CapTable) where
   over : most < t .full → false ≡ fit most t

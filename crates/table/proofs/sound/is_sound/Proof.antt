@@ -9,7 +9,7 @@ use borrow.Author.Needs.{needs}
 use borrow.Author.Tests.{not-true, not-false}
 use Rattle.base.specs.Choose.{both, both-left, both-right, both-make, refuted}
 use Rattle.table.specs.Insert.{slotsFor}
-use Rattle.table.specs.Sound.{codedTest, capacityTest, countsTest, roomTest, unusedTest, withinTest, foundTest, soundTest}
+use Rattle.table.specs.Sound.{codedTest, capacityTest, agreeTest, roomTest, unusedTest, mostTest, foundTest, soundTest}
 use Rattle.table.specs.declared.CapTable.{CapTable}
 use Rattle.table.proofs.laws.Room.{capacity-le, slots-few}
 use Rattle.table.proofs.laws.Tests.{capacity-exactly, room-exactly, unused-exactly, within-exactly, sound-exactly}
@@ -17,7 +17,7 @@ use Rattle.table.proofs.sound.is_sound.Statement.{statement}
 use Rattle.table.proofs.sound.is_sound.Tie as tie
 
 abbrev fit : ℕ → CapTable → Bool
-fit most t = both (roomTest t) (both (unusedTest t) (withinTest most t))
+fit most t = both (roomTest t) (both (unusedTest t) (mostTest most t))
 
 module _ (most : ℕ) (ws : List ℕ) (t : CapTable) (b : Bool) where
   -- A test that a sound table passes, and this one does not.
@@ -31,8 +31,8 @@ module _ (most : ℕ) (ws : List ℕ) (t : CapTable) (b : Bool) where
   unfit =
       unsound (fit most t) (λ h.
       let s = sound-exactly most ws t .0 h in
-      both-make (roomTest t) (both (unusedTest t) (withinTest most t)) (room-exactly t .1 (s .room))
-      (both-make (unusedTest t) (withinTest most t) (unused-exactly t .1 (s .unused)) (within-exactly most t .1 (s .within))))
+      both-make (roomTest t) (both (unusedTest t) (mostTest most t)) (room-exactly t .1 (s .room))
+      (both-make (unusedTest t) (mostTest most t) (unused-exactly t .1 (s .unused)) (within-exactly most t .1 (s .within))))
 
 module _ (most slots : ℕ) (b : Bool) (e : b ≡ capacityTest most slots) (good : not b ≡ false) where
   capacity : capacityTest most slots ≡ true
@@ -44,17 +44,17 @@ module _ (most slots : ℕ) (b : Bool) (e : b ≡ capacityTest most slots) (good
 rest :
     (most : ℕ) (ws : List ℕ) (t : CapTable) (b f r : Bool) → b ≡ capacityTest most (t .slots) → not b ≡ false → f ≡ fit most t
     → not f ≡ false
-    → r ≡ both (codedTest ws (t .slots)) (both (countsTest ws t) (foundTest ws (t .slots))) → r ≡ soundTest most ws t
+    → r ≡ both (codedTest ws (t .slots)) (both (agreeTest ws t) (foundTest ws (t .slots))) → r ≡ soundTest most ws t
 unfolding soundTest
 rest most ws t b f r e good g fits last =
     let fitted : fit most t ≡ true = sym g ∙ not-false f fits in
-    let used : both (unusedTest t) (withinTest most t) ≡ true = both-right (roomTest t) (both (unusedTest t) (withinTest most t)) fitted in
+    let used : both (unusedTest t) (mostTest most t) ≡ true = both-right (roomTest t) (both (unusedTest t) (mostTest most t)) fitted in
     last
     ∙ rw (
       capacity most (t .slots) b e good,
-      both-left (roomTest t) (both (unusedTest t) (withinTest most t)) fitted,
-      both-left (unusedTest t) (withinTest most t) used,
-      both-right (unusedTest t) (withinTest most t) used,
+      both-left (roomTest t) (both (unusedTest t) (mostTest most t)) fitted,
+      both-left (unusedTest t) (mostTest most t) used,
+      both-right (unusedTest t) (mostTest most t) used,
     )
 
 counts-fit-requires : tie.Need-counts-fit-requires

@@ -16,7 +16,7 @@ use Rattle.base.specs.Below.{sum, one}
 use Rattle.base.specs.Compacted.{passing, all-passing, Compacting, compact-starts, compact-goes}
 use Rattle.base.specs.SumLaws.{sum-goes}
 use Rattle.table.specs.Slots.{isLive, isRemoved}
-use Rattle.table.specs.Sound.{codedAt, codedTest, countsTest, liveSlots}
+use Rattle.table.specs.Sound.{codedAt, codedTest, agreeTest, liveSlots}
 use Rattle.table.specs.declared.CapTable.{CapTable}
 use Rattle.table.proofs.sound.kinds_sound.Statement.{statement}
 use Rattle.table.proofs.sound.kinds_sound.Tie as tie
@@ -66,7 +66,7 @@ module _ (ws : List ℕ) (t : CapTable) (xs₀ xs : List ℕ) (n removed coded i
     all-done = whole ws (t .slots) xs₀ xs n removed coded i done past
 
     abbrev passes : Bool
-    passes = both (codedTest ws (t .slots)) (countsTest ws t)
+    passes = both (codedTest ws (t .slots)) (agreeTest ws t)
 
     coded-tested : codedTest ws (t .slots) ≡ eqb coded (t .slots)
     coded-tested = all-passing (codedAt ws) (t .slots) ∙ rw (← all-done .coded-is)
@@ -79,7 +79,8 @@ module _ (ws : List ℕ) (t : CapTable) (xs₀ xs : List ℕ) (n removed coded i
       miscounted d = rw (coded-tested, eq-eqb coded (t .slots) all-coded, ← all-done .live .passed, ne-eqb n (t .full) d)
 
       counted : n ≡ t .full → eqb removed (t .tombstones) ≡ passes
-      counted e = rw (coded-tested, eq-eqb coded (t .slots) all-coded, ← all-done .live .passed, eq-eqb n (t .full) e, ← all-done .removed-is)
+      counted e =
+          rw (coded-tested, eq-eqb coded (t .slots) all-coded, ← all-done .live .passed, eq-eqb n (t .full) e, ← all-done .removed-is)
 
 abbrev Inv-loop : tie.InvT-loop
 Inv-loop words t live₀ slots n₀ removed₀ coded₀ i₀ live n removed coded i = Done words slots live₀ live n removed coded i

@@ -15,7 +15,7 @@ use Rattle.base.specs.Choose.{pick, both, both-left, both-right}
 use Rattle.base.specs.Compacted.{passing, length-compacted, compacted-all}
 use Rattle.base.specs.SumLaws.{sum-one-le}
 use Rattle.table.specs.Slots.{isLive, isRemoved}
-use Rattle.table.specs.Sound.{endsHere, codedTest, countsTest, foundTest, liveSlots}
+use Rattle.table.specs.Sound.{endsHere, codedTest, agreeTest, foundTest, liveSlots}
 use Rattle.table.specs.declared.CapTable.{CapTable}
 use Rattle.table.proofs.sound.slots_sound.Statement.{statement}
 use Rattle.table.proofs.sound.slots_sound.Tie as tie
@@ -24,13 +24,13 @@ abbrev zeros : List ℕ
 zeros = replicate 512 0
 
 abbrev kinds : List ℕ → CapTable → Bool
-kinds ws t = both (codedTest ws (t .slots)) (countsTest ws t)
+kinds ws t = both (codedTest ws (t .slots)) (agreeTest ws t)
 
 abbrev passes : List ℕ → CapTable → Bool
-passes ws t = both (codedTest ws (t .slots)) (both (countsTest ws t) (foundTest ws (t .slots)))
+passes ws t = both (codedTest ws (t .slots)) (both (agreeTest ws t) (foundTest ws (t .slots)))
 
 fails : (ws : List ℕ) (t : CapTable) (r : Bool) → r ≡ kinds ws t → not r ≡ true → false ≡ passes ws t
-fails ws t r e bad = go (codedTest ws (t .slots)) (countsTest ws t) (sym e ∙ not-true r bad)
+fails ws t r e bad = go (codedTest ws (t .slots)) (agreeTest ws t) (sym e ∙ not-true r bad)
   where
     go : (coded counts : Bool) → both coded counts ≡ false → false ≡ both coded (both counts (foundTest ws (t .slots)))
     go true counts h = rw h
@@ -40,11 +40,11 @@ fails ws t r e bad = go (codedTest ws (t .slots)) (countsTest ws t) (sym e ∙ n
 module _ (ws : List ℕ) (t : CapTable) (few : t .slots ≤ 512) (r : Bool) (e : r ≡ kinds ws t) (good : not r ≡ false) (xs : List ℕ)
     (written : xs ≡ liveSlots ws (t .slots) zeros)
   where
-    counts : countsTest ws t ≡ true
-    counts = both-right (codedTest ws (t .slots)) (countsTest ws t) (sym e ∙ not-false r good)
+    counts : agreeTest ws t ≡ true
+    counts = both-right (codedTest ws (t .slots)) (agreeTest ws t) (sym e ∙ not-false r good)
 
     coded : codedTest ws (t .slots) ≡ true
-    coded = both-left (codedTest ws (t .slots)) (countsTest ws t) (sym e ∙ not-false r good)
+    coded = both-left (codedTest ws (t .slots)) (agreeTest ws t) (sym e ∙ not-false r good)
 
     live-is : passing (isLive ws) (t .slots) ≡ t .full
     live-is =
