@@ -1,14 +1,13 @@
 -- None of those from j up to i is the pid, so it is among all of them where it is among those from i on.
 use mathlib.Core.Bool.{true, false}
-use mathlib.Core.List.{List, _∷_}
+use mathlib.Core.List.{List}
 use mathlib.Core.Logic.{_≢_}
 use mathlib.Core.Path.{_≡_, refl, sym}
 use Prim.Native.Nat.{ℕ, _+_, _-_, _<_, _≤_}
-use native.Mathlib.Numerals.{add-one}
 use borrow.Author.Needs.{needs}
 use borrow.Author.Tests.{eq-eqb, ne-eqb}
 use lib.ListN.{length, getD, drop, drop-of-length-le}
-use lib.Seq.{drop-cons}
+use Rattle.base.specs.Rest.{drop-next}
 use Rattle.revocation_steps.specs.Revocation.{isIn}
 use Rattle.revocation_steps.proofs.queues.is_in.Statement.{statement}
 use Rattle.revocation_steps.proofs.queues.is_in.Tie as tie
@@ -26,14 +25,11 @@ module _ (listed : List ℕ) (j pid : ℕ) where
     ends u = sym (rw (drop-of-length-le listed u) at (left .same))
 
     module _ (l : i < length listed) where
-      next : drop i listed ≡ getD listed i 0 ∷ drop (i + 1) listed
-      next = rw add-one (drop-cons listed i 0 l)
-
       found : pid ≡ getD listed i 0 → true ≡ isIn pid (drop j listed)
-      found e = sym (rw (next, eq-eqb pid (getD listed i 0) e) at (left .same))
+      found e = sym (rw (drop-next listed i l, eq-eqb pid (getD listed i 0) e) at (left .same))
 
       goes : pid ≢ getD listed i 0 → Left (i + 1)
-      goes differ = record { same = rw (next, ne-eqb pid (getD listed i 0) differ) at (left .same) }
+      goes differ = record { same = rw (drop-next listed i l, ne-eqb pid (getD listed i 0) differ) at (left .same) }
 
 abbrev Inv-loop : tie.InvT-loop
 Inv-loop listed j pid i₀ i = (i ≤ length listed) × Left listed j pid i

@@ -1,18 +1,17 @@
 -- Those before j are counted; with those from j on they are the answer.
 use mathlib.Core.Bool.{Bool, true, false, not}
-use mathlib.Core.List.{List, _∷_}
+use mathlib.Core.List.{List}
 use mathlib.Core.Logic.{⊎-elim}
 use mathlib.Core.Path.{_≡_, sym, _∙_}
 use Prim.Native.Nat.{ℕ, _+_, _-_, _<_, _≤_}
 use native.Mathlib.Nat.{zero-add}
-use native.Mathlib.Numerals.{add-one}
 use native.Mathlib.Omega.{arith}
 use borrow.Author.Needs.{needs}
 use lib.Dec.{ltb}
 use lib.ListN.{length, getD, drop, drop-of-length-le}
-use lib.Seq.{drop-cons}
 use Rattle.base.specs.Below.{one}
 use Rattle.base.specs.Choose.{both}
+use Rattle.base.specs.Rest.{drop-next}
 use Rattle.world.specs.declared.Numbers.{Numbers}
 use Rattle.revocation_steps.specs.Revocation.{queueFor, isIn, newQueues}
 use Rattle.revocation_steps.proofs.queues.new_queues.Statement.{statement}
@@ -38,9 +37,7 @@ module _ (d : Numbers) (mem listed : List ℕ) where
 
       next : newQueues d mem (drop j listed) ≡ one isNew + newQueues d mem (drop (j + 1) listed)
       unfolding newQueues
-      next =
-          let here : drop j listed ≡ getD listed j 0 ∷ drop (j + 1) listed = rw add-one (drop-cons listed j 0 l) in
-          rw here
+      next = rw (drop-next listed j l)
 
       module _ (b : Bool) (e : b ≡ isNew) where
         counts : b ≡ true → Counting (count + 1) (j + 1)

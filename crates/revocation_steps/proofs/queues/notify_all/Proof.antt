@@ -1,11 +1,10 @@
 -- The ids before j are queued; with those from j on the memory becomes the answer.
-use mathlib.Core.List.{List, _∷_}
+use mathlib.Core.List.{List}
 use mathlib.Core.Path.{_≡_, refl}
 use Prim.Native.Nat.{ℕ, _+_, _-_, _<_, _≤_}
-use native.Mathlib.Numerals.{add-one}
 use borrow.Author.Needs.{needs}
 use lib.ListN.{length, getD, drop, drop-of-length-le}
-use lib.Seq.{drop-cons}
+use Rattle.base.specs.Rest.{drop-next}
 use Rattle.world.specs.declared.Numbers.{Numbers}
 use Rattle.steps.specs.Ready.{QueuesReady}
 use Rattle.revocation_steps.specs.Revocation.{notifyPids, notifyAll}
@@ -31,9 +30,7 @@ module _ (d : Numbers) (listed ids : List ℕ) (time : ℕ) (mem₀ : List ℕ) 
     goes : j < length ids → (after : List ℕ) → after ≡ notifyPids d listed (getD ids j 0) time mem → QueuesReady d after
         → Notifying after (j + 1)
     unfolding notifyAll
-    goes l after e ready =
-        let next : drop j ids ≡ getD ids j 0 ∷ drop (j + 1) ids = rw add-one (drop-cons ids j 0 l) in
-        record { ready = ready; left = rw e (rw next at (notifying .left)) }
+    goes l after e ready = record { ready = ready; left = rw e (rw (drop-next ids j l) at (notifying .left)) }
 
 abbrev Inv-loop : tie.InvT-loop
 Inv-loop mem₀ d listed ids time j₀ mem j =

@@ -1,12 +1,11 @@
 -- The pids before j have their notice; with those from j on the memory becomes the answer.
-use mathlib.Core.List.{List, _∷_}
+use mathlib.Core.List.{List}
 use mathlib.Core.Path.{_≡_, refl}
 use Prim.Native.Nat.{ℕ, _+_, _-_, _<_, _≤_}
-use native.Mathlib.Numerals.{add-one}
 use native.Mathlib.Omega.{arith}
 use borrow.Author.Needs.{needs}
 use lib.ListN.{length, getD, drop, drop-of-length-le}
-use lib.Seq.{drop-cons}
+use Rattle.base.specs.Rest.{drop-next}
 use Rattle.revocation.specs.Reason.{numberOf}
 use Rattle.revocation.specs.declared.RevocationReason.the-variants.{ParentRevoked}
 use Rattle.world.specs.declared.Numbers.{Numbers}
@@ -37,10 +36,9 @@ module _ (d : Numbers) (listed : List ℕ) (id time : ℕ) (mem₀ : List ℕ) w
         → after ≡ notifyStep d (getD listed j 0) id time reason mem → Notifying after (j + 1)
     unfolding notifyPids
     goes reason parent l after e =
-        let next : drop j listed ≡ getD listed j 0 ∷ drop (j + 1) listed = rw add-one (drop-cons listed j 0 l) in
         record {
           ready = rw e (ready-notified d mem (notifying .ready) (getD listed j 0) id time reason (omega arith));
-          left = rw (e, parent) (rw next at (notifying .left));
+          left = rw (e, parent) (rw (drop-next listed j l) at (notifying .left));
         }
 
 abbrev Inv-loop : tie.InvT-loop
