@@ -1,17 +1,16 @@
 -- The tokens before j are served, and so many of them gave 0; with those from j on the memory becomes the answer.
-use mathlib.Core.List.{List, _∷_}
+use mathlib.Core.List.{List}
 use mathlib.Core.Logic.{_≢_}
 use mathlib.Core.Path.{_≡_, refl, ap}
 use Prim.Native.Nat.{ℕ, _+_, _-_, _<_, _≤_}
-use native.Mathlib.Numerals.{add-one}
 use native.Mathlib.Omega.{arith}
 use borrow.Author.Needs.{needs}
 use borrow.Author.Tests.{eq-eqb, ne-eqb}
 use lib.Dec.{eqb}
 use lib.ListN.{length, getD, drop, drop-of-length-le}
-use lib.Seq.{drop-cons}
 use Rattle.answers.specs.Number.{numberOf}
 use Rattle.base.specs.Below.{one}
+use Rattle.base.specs.Rest.{drop-next}
 use Rattle.steps.specs.Replies.{Left, done}
 use Rattle.steps.specs.declared.Reply.{Reply}
 use Rattle.world.specs.Sound.{SoundAt}
@@ -49,13 +48,12 @@ module _ (d : Numbers) (tokens : List ℕ) (time : ℕ) (listed mem₀ : List �
         goes : (more : ℕ) → more ≡ gave + one (eqb n 0) → more ≤ j + 1 → Revoking after (j + 1) more
         unfolding revokingEach
         goes more counts below =
-            let next : drop j tokens ≡ getD tokens j 0 ∷ drop (j + 1) tokens = rw add-one (drop-cons tokens j 0 l) in
             let replies = ap (λ (left : Left Reply). left .reply) is in
             let leaves = ap (λ (left : Left Reply). left .memory) is in
             record {
               sound = rw leaves (revoking-token-kept d mem (revoking .sound) (getD tokens j 0) time listed .sound);
               few = below;
-              left = rw (counts, number, replies, leaves) (rw next at (revoking .left));
+              left = rw (counts, number, replies, leaves) (rw (drop-next tokens j l) at (revoking .left));
             }
 
         gives-0 : n ≡ 0 → Revoking after (j + 1) (gave + 1)
