@@ -262,23 +262,23 @@ void stonespry_get_children(StonespryCallAnswer *out, const uint64_t *mem, size_
 /* Capabilities with a list of children, and children. 0, 26. */
 void stonespry_derivation_tree_stats(StonespryTreeAnswer *out, const uint64_t *mem, size_t mem_len);
 
-/* ---- revocation; `time` in seconds, `listed` the pids that are told, 32 at most ---- */
+/* ---- revocation; `time` in seconds, `pids` the processes that are told, 32 at most ---- */
 
 /* Revokes the token's id and all its descendants. 0, 1, 21, 24, 25, 26. */
-void stonespry_revoke(StonespryCallAnswer *out, uint64_t *mem, size_t mem_len, uint64_t token, uint64_t time, const uint64_t *listed,
-                      size_t listed_len);
+void stonespry_revoke(StonespryCallAnswer *out, uint64_t *mem, size_t mem_len, uint64_t token, uint64_t time, const uint64_t *pids,
+                      size_t pids_len);
 
 /* The same; a token whose id is not registered is logged. 0, 21, 24, 25, 26. */
 void stonespry_revoke_capability(StonespryCallAnswer *out, uint64_t *mem, size_t mem_len, uint64_t token, uint64_t time,
-                                 const uint64_t *listed, size_t listed_len);
+                                 const uint64_t *pids, size_t pids_len);
 
 /* The same, for a token that the space holds with REVOKE. 0, 2, 8, 20, 21, 24, 25, 26; count: visits. */
 void stonespry_revoke_held(StonespryCallAnswer *out, uint64_t *mem, size_t mem_len, size_t s, uint64_t token, uint64_t time,
-                           const uint64_t *listed, size_t listed_len);
+                           const uint64_t *pids, size_t pids_len);
 
 /* stonespry_revoke_capability of each token in turn, 65,535 at most. 0, 21, 26; value: how many of them gave 0. */
 void stonespry_revoke_batch(StonespryCallAnswer *out, uint64_t *mem, size_t mem_len, const uint64_t *tokens, size_t tokens_len,
-                            uint64_t time, const uint64_t *listed, size_t listed_len);
+                            uint64_t time, const uint64_t *pids, size_t pids_len);
 
 /* Whether the token's id and generation are logged. 0, 26; value: 1 or 0. */
 void stonespry_is_revoked(StonespryCallAnswer *out, const uint64_t *mem, size_t mem_len, uint64_t token);

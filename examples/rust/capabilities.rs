@@ -34,7 +34,7 @@ extern "C" {
     );
     fn stonespry_revoke_held(
         out: *mut CallAnswer, mem: *mut u64, mem_len: usize, s: usize, token: u64, time: u64,
-        listed: *const u64, listed_len: usize,
+        pids: *const u64, pids_len: usize,
     );
     fn stonespry_drain_notifications(
         out: *mut CallAnswer, mem: *mut u64, mem_len: usize, pid: u64, area: *mut u64, area_len: usize,

@@ -37,14 +37,14 @@ pub extern "C" fn stonespry_revoke(
     mem: &mut [u64],
     token: u64,
     time: u64,
-    listed: &[u64],
+    pids: &[u64],
 ) -> CallAnswer
     ensures { λ r. ⌜
         record { reply = r; memory = now (mem .exit) }
-        ≡ told callAnswer (revokeOut (now (mem .entry)) token time (now (listed .entry)))
+        ≡ told callAnswer (revokeOut (now (mem .entry)) token time (now (pids .entry)))
         ⌝ }
 {
-    answered(revocation_calls::revoke(mem, CapabilityToken(token), time, listed))
+    answered(revocation_calls::revoke(mem, CapabilityToken(token), time, pids))
 }
 
 #[no_mangle]
@@ -52,14 +52,14 @@ pub extern "C" fn stonespry_revoke_capability(
     mem: &mut [u64],
     token: u64,
     time: u64,
-    listed: &[u64],
+    pids: &[u64],
 ) -> CallAnswer
     ensures { λ r. ⌜
         record { reply = r; memory = now (mem .exit) }
-        ≡ told callAnswer (revokeCapabilityOut (now (mem .entry)) token time (now (listed .entry)))
+        ≡ told callAnswer (revokeCapabilityOut (now (mem .entry)) token time (now (pids .entry)))
         ⌝ }
 {
-    answered(revocation_calls::revoke_capability(mem, CapabilityToken(token), time, listed))
+    answered(revocation_calls::revoke_capability(mem, CapabilityToken(token), time, pids))
 }
 
 #[no_mangle]
@@ -68,14 +68,14 @@ pub extern "C" fn stonespry_revoke_held(
     s: usize,
     token: u64,
     time: u64,
-    listed: &[u64],
+    pids: &[u64],
 ) -> CallAnswer
     ensures { λ r. ⌜
         record { reply = r; memory = now (mem .exit) }
-        ≡ told callAnswer (revokeHeldOut (now (mem .entry)) s token time (now (listed .entry)))
+        ≡ told callAnswer (revokeHeldOut (now (mem .entry)) s token time (now (pids .entry)))
         ⌝ }
 {
-    answered(revocation_calls::revoke_held(mem, s, CapabilityToken(token), time, listed))
+    answered(revocation_calls::revoke_held(mem, s, CapabilityToken(token), time, pids))
 }
 
 #[no_mangle]
@@ -83,14 +83,14 @@ pub extern "C" fn stonespry_revoke_batch(
     mem: &mut [u64],
     tokens: &[u64],
     time: u64,
-    listed: &[u64],
+    pids: &[u64],
 ) -> CallAnswer
     ensures { λ r. ⌜
         record { reply = r; memory = now (mem .exit) }
-        ≡ told callAnswer (revokeBatchOut (now (mem .entry)) (now (tokens .entry)) time (now (listed .entry)))
+        ≡ told callAnswer (revokeBatchOut (now (mem .entry)) (now (tokens .entry)) time (now (pids .entry)))
         ⌝ }
 {
-    answered(revocation_calls::revoke_batch(mem, tokens, time, listed))
+    answered(revocation_calls::revoke_batch(mem, tokens, time, pids))
 }
 
 // ---- what revocation says of itself
