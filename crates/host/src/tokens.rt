@@ -13,7 +13,7 @@ pub struct TokenAnswer {
     pub token: u64,
 }
 
-fn answered(made: Made) -> TokenAnswer
+fn token_answered(made: Made) -> TokenAnswer
     ensures { λ r. ⌜ r ≡ tokenAnswer made ⌝ }
 {
     match made {
@@ -37,7 +37,7 @@ pub extern "C" fn stonespry_token_new(
 ) -> TokenAnswer
     ensures { λ r. ⌜ r ≡ tokenAnswer (made id generation «cap_type» flags) ⌝ }
 {
-    answered(CapabilityToken::new(id, generation, cap_type, flags))
+    token_answered(CapabilityToken::new(id, generation, cap_type, flags))
 }
 
 #[no_mangle]
@@ -72,7 +72,7 @@ pub extern "C" fn stonespry_token_flags(token: u64) -> u8
 pub extern "C" fn stonespry_token_from_id_and_generation(id: u64, generation: u8) -> TokenAnswer
     ensures { λ r. ⌜ r ≡ tokenAnswer (made id generation 0 0) ⌝ }
 {
-    answered(CapabilityToken::from_id_and_generation(id, generation))
+    token_answered(CapabilityToken::from_id_and_generation(id, generation))
 }
 
 #[no_mangle]
@@ -112,5 +112,5 @@ pub extern "C" fn stonespry_token_from_parts(
 ) -> TokenAnswer
     ensures { λ r. ⌜ r ≡ tokenAnswer (made id generation 0 0) ⌝ }
 {
-    answered(CapabilityToken::from_parts(id, object_id, generation, metadata))
+    token_answered(CapabilityToken::from_parts(id, object_id, generation, metadata))
 }

@@ -1,4 +1,4 @@
--- `answered` meets its contract: each arm's answer is the definition's for the arm's case.
+-- `token_answered` meets its contract: each arm's answer is the definition's for the arm's case.
 use Prim.Native.Nat.{ℕ}
 use mathlib.Core.Path.{_≡_}
 use borrow.Author.Needs.{needs}
@@ -8,8 +8,8 @@ use Rattle.token.specs.declared.capability.CapabilityToken.{CapabilityToken}
 use Rattle.token.specs.declared.capability.Made.{Made}
 use Rattle.token.specs.declared.capability.Made.the-variants.{Token, Refused}
 use Rattle.host.specs.Answered.{tokenAnswer}
-use Rattle.host.proofs.tokens.answered.Statement.{statement}
-use Rattle.host.proofs.tokens.answered.Tie as tie
+use Rattle.host.proofs.tokens.token_answered.Statement.{statement}
+use Rattle.host.proofs.tokens.token_answered.Tie as tie
 
 given : (made : Made) (token : CapabilityToken) (word : ℕ) → made ≡ Token token → word ≡ token .0
     → record { answer = 0; token = word } ≡ tokenAnswer made
@@ -22,7 +22,7 @@ refused made why n is number = rw (is, number)
 
 ruleset laws = (needs, given, refused)
 
-pub answered-spec : {M : Type 1} → statement M
-answered-spec =
+pub token-answered-spec : {M : Type 1} → statement M
+token-answered-spec =
     tie.close
     (tie.spec (λ c. search laws) (λ c κs. search laws) (λ c. search laws) (λ c κs. search laws) (λ c. search laws) (λ c. search laws))
