@@ -2,13 +2,13 @@
 use mathlib.Core.Path.{_≡_, refl, ap, _∙_}
 use mathlib.Core.Bool.{Bool, true, false}
 use mathlib.Core.List.{List}
-use Prim.Native.Nat.{ℕ, zero, suc, _-_, _/_, _^_, _<_, _≤_}
+use Prim.Native.Nat.{ℕ, zero, suc, _+_, _-_, _/_, _^_, _<_, _≤_}
 use native.Mathlib.Nat.{pow-le-pow-right, le-antisymm}
 use native.Mathlib.Numerals.{add-one}
 use native.Mathlib.Omega.{arith}
 use borrow.Author.Tests.{lt-ltb, le-ltb}
 use lib.Dec.{ltb}
-use lib.ListN.{length, take, length-append}
+use lib.ListN.{length, take, length-append, length-take}
 use Rattle.base.specs.Choose.{pick}
 use Rattle.io.specs.Digits.{digits, Fewest}
 use Rattle.request.specs.Lines.{width, decimal, hex, lineOf}
@@ -18,39 +18,49 @@ length-digits b zero n = refl
 length-digits b (suc k) n = simp (length-append, length-digits b k (n / b)) (add-one k)
 
 -- A number below b ^ m has no more than m digits, or the least.
-pub fewest-most : (b least n k m : ℕ) → 0 < b → least ≤ m → n < b ^ m → Fewest b least n k → k ≤ m
+fewest-most : (b least n k m : ℕ) → 0 < b → least ≤ m → n < b ^ m → Fewest b least n k → k ≤ m
 fewest-most b least n k m some l small fewest =
     let over : ¬ (m < k) = λ u. omega (arith, fewest .2 (omega arith), pow-le-pow-right {n = b} some {i = m} {j = k - 1} (omega arith)) in
     omega arith
 
-fewest-width : (n k : ℕ) → n < 10000 → Fewest 10 1 n k → k ≡ width n
-fewest-width n k small fewest = go k (fewest-most 10 1 n k 4 (omega arith) (omega arith) small fewest) fewest
-  where
-    go : (k : ℕ) → k ≤ 4 → Fewest 10 1 n k → k ≡ width n
-    go zero l f = absurd (omega (arith, f .0))
-    go (suc zero) l f = rw (lt-ltb n 10 (f .1))
-    go (suc (suc zero)) l f = rw (le-ltb n 10 (f .2 (omega arith)), lt-ltb n 100 (f .1))
-    go (suc (suc (suc zero))) l f =
-        let more : 100 ≤ n = f .2 (omega arith) in
-        rw (le-ltb n 10 (omega arith), le-ltb n 100 more, lt-ltb n 1000 (f .1))
-    go (suc (suc (suc (suc zero)))) l f =
-        let more : 1000 ≤ n = f .2 (omega arith) in
-        rw (le-ltb n 10 (omega arith), le-ltb n 100 (omega arith), le-ltb n 1000 more)
-    go (suc (suc (suc (suc (suc k))))) l f = absurd (omega arith)
+-- ---- what `io::decimal` and `io::hex` leave in a text: it fits, with the byte that ends it, and spells the number
 
-fewest-sixteen : (value k : ℕ) → value < 2 ^ 64 → Fewest 16 16 value k → k ≡ 16
-fewest-sixteen value k small fewest =
-    le-antisymm (fewest-most 16 16 value k 16 (omega arith) (omega arith) small fewest) (fewest .0)
+module _ (n k : ℕ) (small : n < 10000) (fewest : Fewest 10 1 n k) where
+  decimal-most : k ≤ 4
+  decimal-most = fewest-most 10 1 n k 4 (omega arith) (omega arith) small fewest
 
--- ---- what `io::decimal` and `io::hex` leave in a text
+  fewest-width : k ≡ width n
+  fewest-width = go k decimal-most fewest
+    where
+      go : (k : ℕ) → k ≤ 4 → Fewest 10 1 n k → k ≡ width n
+      go zero l f = absurd (omega (arith, f .0))
+      go (suc zero) l f = rw (lt-ltb n 10 (f .1))
+      go (suc (suc zero)) l f = rw (le-ltb n 10 (f .2 (omega arith)), lt-ltb n 100 (f .1))
+      go (suc (suc (suc zero))) l f =
+          let more : 100 ≤ n = f .2 (omega arith) in
+          rw (le-ltb n 10 (omega arith), le-ltb n 100 more, lt-ltb n 1000 (f .1))
+      go (suc (suc (suc (suc zero)))) l f =
+          let more : 1000 ≤ n = f .2 (omega arith) in
+          rw (le-ltb n 10 (omega arith), le-ltb n 100 (omega arith), le-ltb n 1000 more)
+      go (suc (suc (suc (suc (suc k))))) l f = absurd (omega arith)
 
-pub spelt-decimal : (n k : ℕ) (text : List ℕ) → n < 10000 → Fewest 10 1 n k → take k text ≡ digits 10 k n → take k text ≡ decimal n
-unfolding decimal
-spelt-decimal n k text small fewest is = is ∙ ap (λ k. digits 10 k n) (fewest-width n k small fewest)
+  pub decimal-fits : (at size : ℕ) (text : List ℕ) → at + 5 ≤ size → at + length (take k text) + 1 ≤ size
+  decimal-fits at size text room = simp length-take (omega (arith, decimal-most))
 
-pub spelt-hex : (n k : ℕ) (text : List ℕ) → n < 2 ^ 64 → Fewest 16 16 n k → take k text ≡ digits 16 k n → take k text ≡ hex n
-unfolding hex
-spelt-hex n k text small fewest is = is ∙ ap (λ k. digits 16 k n) (fewest-sixteen n k small fewest)
+  pub spelt-decimal : (text : List ℕ) → take k text ≡ digits 10 k n → take k text ≡ decimal n
+  unfolding decimal
+  spelt-decimal text is = is ∙ ap (λ k. digits 10 k n) fewest-width
+
+module _ (value k : ℕ) (small : value < 2 ^ 64) (fewest : Fewest 16 16 value k) where
+  hex-most : k ≤ 16
+  hex-most = fewest-most 16 16 value k 16 (omega arith) (omega arith) small fewest
+
+  pub hex-fits : (at size : ℕ) (text : List ℕ) → at + 17 ≤ size → at + length (take k text) + 1 ≤ size
+  hex-fits at size text room = simp length-take (omega (arith, hex-most))
+
+  pub spelt-hex : (text : List ℕ) → take k text ≡ digits 16 k value → take k text ≡ hex value
+  unfolding hex
+  spelt-hex text is = is ∙ ap (λ k. digits 16 k value) (le-antisymm hex-most (fewest .0))
 
 -- ---- lengths
 

@@ -71,10 +71,10 @@ fn zero_unread(r: Request) -> bool
 fn is_far(mask: u8, number: u64, spaces: u64) -> bool
     ensures { λ r. ⌜ r ≡ not (pick (eqb (mask % 2) 1) (ltb number spaces) true) ⌝ }
 {
-    if mask % 2 == 0 {
-        return false;
+    if mask % 2 == 1 {
+        return !(number < spaces);
     }
-    spaces <= number
+    false
 }
 
 // Whether the operation reads a space number of S or more.

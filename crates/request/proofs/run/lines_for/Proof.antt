@@ -8,7 +8,5 @@ use Rattle.request.proofs.run.lines_for.Tie as tie
 pub lines-for-spec : {M : Type 1} → statement M
 lines-for-spec =
     tie.close
-    (tie.spec
-    (λ c. (rw (lt-ltb _ _ (c .if1 .taken)), omega arith))
-    (λ c. search needs)
+    (tie.spec (λ c. (rw (lt-ltb _ _ (c .if1 .taken)), omega arith)) (λ c. search needs)
     (λ c. (rw (le-ltb _ _ (c .if1 .left)), omega arith)))

@@ -13,8 +13,4 @@ returns c = rw (List·getD-eq-default valued 0 {n = c .before .args .op} (omega 
 pub printed-spec : {M : Type 1} → statement M
 printed-spec =
     tie.close
-    (tie.spec
-    returns
-    (λ c. search needs)
-    (λ c. rw (eq-eqb _ _ (c .if2 .taken)))
-    (λ c. rw (ne-eqb _ _ (c .if2 .left))))
+    (tie.spec returns (λ c. search needs) (λ c. rw (eq-eqb _ _ (c .if2 .taken))) (λ c. rw (ne-eqb _ _ (c .if2 .left))))
