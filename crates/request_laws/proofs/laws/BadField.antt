@@ -13,7 +13,7 @@ use lib.ListN.{length, length-replicate}
 use Rattle.answers.specs.Number.{numberOf}
 use Rattle.answers.specs.declared.Answer.{Answer}
 use Rattle.answers.specs.declared.Answer.the-variants.{Done, InsufficientRights, CapabilityRevoked, AlreadyExists, NotFound, SpaceQuota, SpaceIds, BadSpace, BadField, RecycleFull, BadWorld}
-use Rattle.base.specs.Choose.{pick, when}
+use Rattle.base.specs.Choose.{pick}
 use Rattle.delegation_calls.specs.Delegation.{delegateOut}
 use Rattle.manager_laws.proofs.laws.CreateTold.{create-told-21}
 use Rattle.manager_laws.proofs.laws.Delegated as delegate
@@ -55,6 +55,7 @@ use Rattle.request.specs.Run.{pids, drained, called1To5, called6To10, called11T
 use Rattle.request.specs.declared.Request.{Request}
 use Rattle.request.specs.declared.Verdict.{Verdict}
 use Rattle.request.specs.declared.Verdict.the-variants.{Good, Refused}
+use Rattle.request_laws.proofs.laws.Sound.{either}
 
 other : (a : Answer) → numberOf a ≢ 21 → a ≢ BadField
 other a differs e = differs (ap numberOf e)
@@ -77,9 +78,6 @@ module _ (mem : List ℕ) (sound : Sound mem) where
 
   abbrev Never : Left Reply → Type 0
   Never out = out .reply .answer ≢ BadField
-
-  either : (b : Bool) (a rest : Left Reply) → Never a → Never rest → Never (when b a rest)
-  either b a rest here later = when-by-cases Never a rest b (λ e. here) (λ e. later)
 
   -- ---- call by call
 
@@ -143,7 +141,7 @@ module _ (mem : List ℕ) (sound : Sound mem) where
 
   copies : (target source : ℕ) → Never (space.copyOut mem target source)
   unfolding space.copyOut
-  copies target source = on-space target _ (either _ _ _ (other BadSpace (λ e. omega arith)) (other Done (λ e. omega arith)))
+  copies target source = on-space target _ (either Never _ _ _ (other BadSpace (λ e. omega arith)) (other Done (λ e. omega arith)))
 
   revokes-all : (s : ℕ) → Never (space.revokeAllOut mem s)
   unfolding space.revokeAllOut
@@ -219,17 +217,18 @@ module _ (mem : List ℕ) (sound : Sound mem) where
     never-1-to-5 : Never (called1To5 r mem)
     unfolding called1To5
     never-1-to-5 =
-        either _ _ _ (λ e. omega (arith, create-told-21 mem (r .space) (r .a) (eqb (r .valid) 1) (r .«cap_type») (r .rights) .0 e .1 .1))
-        (either _ _ _ (delegates (r .a) (r .space) (r .second) (r .rights))
-        (either _ _ _ (looks-up (r .space) (r .a))
-        (either _ _ _ (checks (r .a) (r .rights) (r .space)) (removes (r .space) (r .a)))))
+        either Never _ _ _
+        (λ e. omega (arith, create-told-21 mem (r .space) (r .a) (eqb (r .valid) 1) (r .«cap_type») (r .rights) .0 e .1 .1))
+        (either Never _ _ _ (delegates (r .a) (r .space) (r .second) (r .rights))
+        (either Never _ _ _ (looks-up (r .space) (r .a))
+        (either Never _ _ _ (checks (r .a) (r .rights) (r .space)) (removes (r .space) (r .a)))))
 
     never-6-to-10 : Never (called6To10 r mem)
     unfolding called6To10
     never-6-to-10 =
-        either _ _ _ (deletes (r .a))
-        (either _ _ _ (revokes-held (r .space) (r .a) (r .b))
-        (either _ _ _ (clears (r .space)) (either _ _ _ (copies (r .space) (r .second)) (revokes-all (r .space)))))
+        either Never _ _ _ (deletes (r .a))
+        (either Never _ _ _ (revokes-held (r .space) (r .a) (r .b))
+        (either Never _ _ _ (clears (r .space)) (either Never _ _ _ (copies (r .space) (r .second)) (revokes-all (r .space)))))
 
     module _ (near : r .op ≡ 13 → r .space < d .spaces) where
       exactly-11-to-15 : Exactly (called11To15 r mem)

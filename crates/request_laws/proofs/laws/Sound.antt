@@ -39,6 +39,10 @@ use Rattle.request.specs.declared.Request.{Request}
 use Rattle.request.specs.declared.Verdict.{Verdict}
 use Rattle.request.proofs.laws.Room.{numbers-good}
 
+-- What holds of either way holds of the choice, whatever the test says.
+pub either : {A : Type 0} (P : A → Type 0) (b : Bool) (a rest : A) → P a → P rest → P (when b a rest)
+either P b a rest here later = when-by-cases P a rest b (λ e. here) (λ e. later)
+
 -- A call that keeps the memory sound, with its numbers, its length and the words past the world, and is not given 26.
 pub record Fine (mem : List ℕ) (out : Left Reply) : Type 0 where
   pub kept : Kept (numbersOf mem) mem (out .memory)
@@ -54,9 +58,6 @@ module _ (mem : List ℕ) (sound : Sound mem) where
   fine : (s : ℕ) (out : Left Reply) → Kept (numbersOf mem) mem (out .memory) → Told mem s (out .reply .answer) → Fine mem out
   fine s out kept told = sure out kept (told .bad-world)
 
-  either : (b : Bool) (a rest : Left Reply) → Fine mem a → Fine mem rest → Fine mem (when b a rest)
-  either b a rest here later = when-by-cases (Fine mem) a rest b (λ e. here) (λ e. later)
-
   refused : (a : Answer) → numberOf a ≢ 26 → Fine mem (refuse mem a)
   refused a other = record { kept = kept-refl (numbersOf mem) mem sound; not-26 = λ e. other (ap numberOf e) }
 
@@ -68,23 +69,24 @@ module _ (mem : List ℕ) (sound : Sound mem) where
         let a : ℕ = r .a in
         let rights : ℕ = r .rights in
         let valid : Bool = eqb (r .valid) 1 in
-        either _ _ _
+        either (Fine mem) _ _ _
         (fine s _ (manager.create-keeps mem sound s a valid (r .«cap_type») rights fits)
         (create-entered mem s a valid (r .«cap_type») rights))
-        (either _ _ _
+        (either (Fine mem) _ _ _
         (sure _ (manager.delegate-keeps mem sound a s (r .second) rights fits) (delegate-told-26 mem a s (r .second) rights))
-        (either _ _ _ (fine s _ (space.lookup-keeps mem sound s a) (told.lookup-entered mem s a))
-        (either _ _ _ (fine s _ (manager.check-keeps mem sound a rights s) (check-entered mem a rights s))
+        (either (Fine mem) _ _ _ (fine s _ (space.lookup-keeps mem sound s a) (told.lookup-entered mem s a))
+        (either (Fine mem) _ _ _ (fine s _ (manager.check-keeps mem sound a rights s) (check-entered mem a rights s))
         (fine s _ (space.remove-keeps mem sound s a) (told.remove-entered mem s a)))))
 
     fine-6-to-10 : Fine mem (called6To10 r mem)
     unfolding called6To10
     fine-6-to-10 =
         let s : ℕ = r .space in
-        either _ _ _ (sure _ (manager.delete-keeps mem sound (r .a)) (delete-entered mem (r .a)))
-        (either _ _ _ (fine s _ (revocation.revoke-held-keeps mem sound s (r .a) (r .b) pids) (held-entered mem (r .b) pids s (r .a)))
-        (either _ _ _ (fine s _ (space.clear-keeps mem sound s) (told.clear-entered mem s))
-        (either _ _ _ (sure _ (space.copy-keeps mem sound s (r .second)) (told.copy-entered mem s (r .second) .0))
+        either (Fine mem) _ _ _ (sure _ (manager.delete-keeps mem sound (r .a)) (delete-entered mem (r .a)))
+        (either (Fine mem) _ _ _
+        (fine s _ (revocation.revoke-held-keeps mem sound s (r .a) (r .b) pids) (held-entered mem (r .b) pids s (r .a)))
+        (either (Fine mem) _ _ _ (fine s _ (space.clear-keeps mem sound s) (told.clear-entered mem s))
+        (either (Fine mem) _ _ _ (sure _ (space.copy-keeps mem sound s (r .second)) (told.copy-entered mem s (r .second) .0))
         (fine s _ (space.revoke-all-keeps mem sound s) (told.revoke-all-entered mem s)))))
 
     fine-drained : Fine mem (drained (r .a) mem)
@@ -97,28 +99,26 @@ module _ (mem : List ℕ) (sound : Sound mem) where
         let s : ℕ = r .space in
         let a : ℕ = r .a in
         let rights : ℕ = r .rights in
-        either _ _ _ (fine s _ (space.insert-keeps mem sound s a (r .b) rights fits) (told.insert-entered mem s a (r .b) rights))
-        (either _ _ _ (fine s _ (space.create-keeps mem sound s rights a fits) (told.create-entered mem s rights a))
-        (either _ _ _ (fine s _ (space.revoke-keeps mem sound s a) (told.revoke-entered mem s a))
-        (either _ _ _ fine-drained
+        either (Fine mem) _ _ _ (fine s _ (space.insert-keeps mem sound s a (r .b) rights fits) (told.insert-entered mem s a (r .b) rights))
+        (either (Fine mem) _ _ _ (fine s _ (space.create-keeps mem sound s rights a fits) (told.create-entered mem s rights a))
+        (either (Fine mem) _ _ _ (fine s _ (space.revoke-keeps mem sound s a) (told.revoke-entered mem s a))
+        (either (Fine mem) _ _ _ fine-drained
         (sure _ (revocation.revoke-capability-keeps mem sound a (r .b) pids) (revoke-capability-entered mem (r .b) pids a)))))
 
     pub called-sound : Fine mem (called r mem)
     unfolding called
-    called-sound = either _ _ _ fine-1-to-5 (either _ _ _ fine-6-to-10 fine-11-to-15)
+    called-sound = either (Fine mem) _ _ _ fine-1-to-5 (either (Fine mem) _ _ _ fine-6-to-10 fine-11-to-15)
 
     -- Refused or called, the memory stays sound and the answer is not 26.
     pub served-sound : Fine mem (answered r mem)
     unfolding answered verdictOf
     served-sound =
-        judging _ _ _ bad-field
-        (judging _ _ _ bad-field (judging _ _ _ (refused BadSpace (λ e. omega arith)) (judging _ _ _ bad-field called-sound)))
+        either Judged _ _ _ bad-field
+        (either Judged _ _ _ bad-field
+        (either Judged _ _ _ (refused BadSpace (λ e. omega arith)) (either Judged _ _ _ bad-field called-sound)))
       where
         Judged : Verdict → Type 0
         Judged v = Fine mem (judged v r mem)
-
-        judging : (b : Bool) (v rest : Verdict) → Judged v → Judged rest → Judged (when b v rest)
-        judging b v rest here later = when-by-cases Judged v rest b (λ e. here) (λ e. later)
 
         bad-field : Fine mem (refuse mem BadField)
         bad-field = refused BadField (λ e. omega arith)
