@@ -8,8 +8,6 @@ ghost use Rattle.host.specs.Replies.{callAnswer, told, areaAnswer};
 use super::replies::CallAnswer;
 use super::replies::answered;
 use delegation_calls::delegate;
-use manager_calls::StatsReply;
-use manager_calls::TreeReply;
 use token::CapabilityToken;
 use token::Rights;
 
@@ -29,30 +27,6 @@ pub struct TreeAnswer {
     pub answer: u8,
     pub parents: u64,
     pub children: u64,
-}
-
-fn manager_answered(reply: StatsReply) -> ManagerAnswer
-    ensures { λ r. ⌜ r ≡ managerAnswer reply ⌝ }
-{
-    let answer = reply.answer;
-    ManagerAnswer {
-        answer: answer.number(),
-        created: reply.created,
-        delegated: reply.delegated,
-        revoked: reply.revoked,
-        deleted: reply.deleted,
-    }
-}
-
-fn tree_answered(reply: TreeReply) -> TreeAnswer
-    ensures { λ r. ⌜ r ≡ treeAnswer reply ⌝ }
-{
-    let answer = reply.answer;
-    TreeAnswer {
-        answer: answer.number(),
-        parents: reply.parents,
-        children: reply.children,
-    }
 }
 
 // ---- capabilities
@@ -122,7 +96,15 @@ pub extern "C" fn stonespry_is_valid(mem: &[u64], token: u64) -> CallAnswer
 pub extern "C" fn stonespry_manager_stats(mem: &[u64]) -> ManagerAnswer
     ensures { λ r. ⌜ r ≡ managerAnswer (statsOut (now (mem .entry))) ⌝ }
 {
-    manager_answered(manager_calls::stats(mem))
+    let reply = manager_calls::stats(mem);
+    let answer = reply.answer;
+    ManagerAnswer {
+        answer: answer.number(),
+        created: reply.created,
+        delegated: reply.delegated,
+        revoked: reply.revoked,
+        deleted: reply.deleted,
+    }
 }
 
 #[no_mangle]
@@ -139,7 +121,13 @@ pub extern "C" fn stonespry_get_children(mem: &[u64], id: u64, area: &mut [u64])
 pub extern "C" fn stonespry_derivation_tree_stats(mem: &[u64]) -> TreeAnswer
     ensures { λ r. ⌜ r ≡ treeAnswer (treeStatsOut (now (mem .entry))) ⌝ }
 {
-    tree_answered(manager_calls::derivation_tree_stats(mem))
+    let reply = manager_calls::derivation_tree_stats(mem);
+    let answer = reply.answer;
+    TreeAnswer {
+        answer: answer.number(),
+        parents: reply.parents,
+        children: reply.children,
+    }
 }
 
 #[no_mangle]

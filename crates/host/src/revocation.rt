@@ -8,7 +8,6 @@ ghost use Rattle.host.specs.Replies.{callAnswer, told, areaAnswer};
 ghost use Rattle.host.specs.Revocation.{queuesAnswer};
 use super::replies::CallAnswer;
 use super::replies::answered;
-use notification_calls::QueuesReply;
 use token::CapabilityToken;
 
 // The answer's number, how many processes have notifications, and how many notifications there are.
@@ -17,17 +16,6 @@ pub struct QueuesAnswer {
     pub answer: u8,
     pub processes: u64,
     pub notifications: u64,
-}
-
-fn queues_answered(reply: QueuesReply) -> QueuesAnswer
-    ensures { λ r. ⌜ r ≡ queuesAnswer reply ⌝ }
-{
-    let answer = reply.answer;
-    QueuesAnswer {
-        answer: answer.number(),
-        processes: reply.processes,
-        notifications: reply.notifications,
-    }
 }
 
 // ---- revoking
@@ -184,7 +172,13 @@ pub extern "C" fn stonespry_cleanup_process_notifications(mem: &mut [u64], pid: 
 pub extern "C" fn stonespry_notification_stats(mem: &[u64]) -> QueuesAnswer
     ensures { λ r. ⌜ r ≡ queuesAnswer (notificationStatsOut (now (mem .entry))) ⌝ }
 {
-    queues_answered(notification_calls::notification_stats(mem))
+    let reply = notification_calls::notification_stats(mem);
+    let answer = reply.answer;
+    QueuesAnswer {
+        answer: answer.number(),
+        processes: reply.processes,
+        notifications: reply.notifications,
+    }
 }
 
 // The name of a reason; the area is bytes.

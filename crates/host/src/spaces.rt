@@ -7,7 +7,6 @@ ghost use Rattle.host.specs.Spaces.{entryAnswer, statsAnswer};
 use super::replies::CallAnswer;
 use super::replies::answered;
 use space_calls::EntryReply;
-use space_calls::StatsReply;
 use token::CapabilityToken;
 use token::Rights;
 
@@ -47,18 +46,6 @@ fn entry_answered(reply: EntryReply) -> EntryAnswer
     }
 }
 
-fn stats_answered(reply: StatsReply) -> StatsAnswer
-    ensures { λ r. ⌜ r ≡ statsAnswer reply ⌝ }
-{
-    let answer = reply.answer;
-    StatsAnswer {
-        answer: answer.number(),
-        hits: reply.hits,
-        misses: reply.misses,
-        total_caps: reply.total_caps,
-    }
-}
-
 // ---- what a space says of itself
 
 #[no_mangle]
@@ -93,7 +80,14 @@ pub extern "C" fn stonespry_space_generation(mem: &[u64], s: usize) -> CallAnswe
 pub extern "C" fn stonespry_space_stats(mem: &[u64], s: usize) -> StatsAnswer
     ensures { λ r. ⌜ r ≡ statsAnswer (statsOut (now (mem .entry)) s) ⌝ }
 {
-    stats_answered(space_calls::stats(mem, s))
+    let reply = space_calls::stats(mem, s);
+    let answer = reply.answer;
+    StatsAnswer {
+        answer: answer.number(),
+        hits: reply.hits,
+        misses: reply.misses,
+        total_caps: reply.total_caps,
+    }
 }
 
 // ---- finding entries
