@@ -18,7 +18,7 @@ use Rattle.world.specs.Numbers.{numbersOf, registeredOf}
 use Rattle.world.specs.Sound.{states, Sound}
 use Rattle.world.specs.declared.Numbers.{Numbers}
 use Rattle.revocation_calls.specs.Calls.{revokeOut, revokeCapabilityOut}
-use Rattle.revocation_calls.specs.Revoking.{revoking, revokingToken}
+use Rattle.revocation_calls.specs.Revoking.{revoking, loggingToken, revokingToken}
 use Rattle.revocation_calls.proofs.laws.RevokingWays.{pairsAfter, pairsWith, revoking-by-cases, logging-by-cases, revoking-token-by-cases}
 use Rattle.revocation_laws.proofs.laws.Ways.{Own, own-not, revoking-own, revoking-token-own, revoke-by-cases, revoke-capability-by-cases, revoke-capability-called}
 
@@ -81,18 +81,29 @@ module _ (d : Numbers) (mem : List ℕ) (token time : ℕ) (listed : List ℕ) w
   abbrev pub TokenGoes : Type 0
   TokenGoes = ((place < n) × Goes d mem place time listed) ⊎ ((n ≤ place) × (pairsWith d mem token ≤ d .pairs))
 
+  logging-told-24 : (loggingToken d token mem .reply .answer ≡ LogFull) ↔ (d .pairs < pairsWith d mem token)
+  logging-told-24 =
+      logging-by-cases d mem (Exactly LogFull (d .pairs < pairsWith d mem token)) token (λ full. given refl full)
+      (λ fits. not-given Done LogFull (λ e. omega arith) (λ full. omega arith))
+
+  logging-told-0 : (loggingToken d token mem .reply .answer ≡ Done) ↔ (pairsWith d mem token ≤ d .pairs)
+  logging-told-0 =
+      logging-by-cases d mem (Exactly Done (pairsWith d mem token ≤ d .pairs)) token
+      (λ full. not-given LogFull Done (λ e. omega arith) (λ fits. omega arith))
+      (λ fits. given refl fits)
+
+  -- An answer that both ways give is given in the case of the way that was gone.
+  either-way :
+      (a : Answer) (P Q : Type 0) → (revoking d place time listed mem .reply .answer ≡ a) ↔ P
+      → (loggingToken d token mem .reply .answer ≡ a) ↔ Q
+      → (revokingToken d token time listed mem .reply .answer ≡ a) ↔ (((place < n) × P) ⊎ ((n ≤ place) × Q))
+  either-way a P Q by-place by-pair =
+      revoking-token-by-cases d mem (Exactly a (((place < n) × P) ⊎ ((n ≤ place) × Q))) token time listed
+      (λ inside. (λ e. inl (inside, by-place .0 e), ⊎-elim (λ (l, p). by-place .1 p) (λ (outside, q). absurd (omega arith))))
+      (λ outside. (λ e. inr (outside, by-pair .0 e), ⊎-elim (λ (inside, p). absurd (omega arith)) (λ (l, q). by-pair .1 q)))
+
   pub revoking-token-told-24 : (revokingToken d token time listed mem .reply .answer ≡ LogFull) ↔ TokenNoPairs
-  revoking-token-told-24 =
-      revoking-token-by-cases d mem (Exactly LogFull TokenNoPairs) token time listed
-      (λ inside.
-      let told = revoking-told-24 d mem place time listed in (
-        λ e. inl (inside, told .0 e),
-        ⊎-elim (λ (l, full). told .1 full) (λ (outside, full). absurd (omega arith)),
-      ))
-      (λ outside.
-      logging-by-cases d mem (Exactly LogFull TokenNoPairs) token
-      (λ full. given refl (inr (outside, full)))
-      (λ fits. not-given Done LogFull (λ e. omega arith) (⊎-elim (λ (l, full). omega arith) (λ (u, full). omega arith))))
+  revoking-token-told-24 = either-way LogFull _ _ (revoking-told-24 d mem place time listed) logging-told-24
 
   pub revoking-token-told-25 : (revokingToken d token time listed mem .reply .answer ≡ PidTableFull) ↔ TokenNoQueues
   revoking-token-told-25 =
@@ -104,17 +115,7 @@ module _ (d : Numbers) (mem : List ℕ) (token time : ℕ) (listed : List ℕ) w
       (λ fits. not-given Done PidTableFull (λ e. omega arith) (λ (l, crowded). omega arith)))
 
   pub revoking-token-told-0 : (revokingToken d token time listed mem .reply .answer ≡ Done) ↔ TokenGoes
-  revoking-token-told-0 =
-      revoking-token-by-cases d mem (Exactly Done TokenGoes) token time listed
-      (λ inside.
-      let told = revoking-told-0 d mem place time listed in (
-        λ e. inl (inside, told .0 e),
-        ⊎-elim (λ (l, goes). told .1 goes) (λ (outside, fits). absurd (omega arith)),
-      ))
-      (λ outside.
-      logging-by-cases d mem (Exactly Done TokenGoes) token
-      (λ full. not-given LogFull Done (λ e. omega arith) (⊎-elim (λ (l, goes). omega arith) (λ (u, fits). omega arith)))
-      (λ fits. given refl (inr (outside, fits))))
+  revoking-token-told-0 = either-way Done _ _ (revoking-told-0 d mem place time listed) logging-told-0
 
 -- ---- the calls
 
