@@ -2,7 +2,7 @@
 -- space has not the token and 2 exactly where it has it without REVOKE, else as `revoke_capability` answers; and a batch gives 0.
 use mathlib.Core.Bool.{true, false, not, true≢false}
 use mathlib.Core.List.{List}
-use mathlib.Core.Logic.{_↔_, _⊎_, inl, inr, ⊎-elim}
+use mathlib.Core.Logic.{_↔_, _≢_, _⊎_, inl, inr, ⊎-elim}
 use mathlib.Core.Path.{_≡_, refl, sym, ap, _∙_}
 use Prim.Native.Nat.{ℕ, _^_, _≤_, _<_}
 use native.Mathlib.Omega.{arith}
@@ -39,9 +39,12 @@ module _ (mem : List ℕ) (sound : Sound mem) (s : ℕ) (there : s < numbersOf m
   abbrev got : Got
   got = lookedUp (spaceOf d s mem) token .got
 
-  -- It has no REVOKE.
+  -- An entry without REVOKE, or with it.
   abbrev pub Without : Type 0
   Without = (e : CapabilityEntry) × ((got ≡ Entry e) × (holds (e .rights .0) (2 ^ 4) ≡ false))
+
+  abbrev pub With : Type 0
+  With = (e : CapabilityEntry) × ((got ≡ Entry e) × (holds (e .rights .0) (2 ^ 4) ≡ true))
 
   abbrev after : List ℕ
   after = lookupStep d s token mem
@@ -49,10 +52,12 @@ module _ (mem : List ℕ) (sound : Sound mem) (s : ℕ) (there : s < numbersOf m
   abbrev outFor : Got → Left Reply
   outFor g = revokingHeld d token time listed after g (lookedUp (spaceOf d s mem) token .visits)
 
-  module _ (a : Answer) (A : Type 0) (low : 0 < numberOf a) (high : numberOf a < 24)
-      (many : 32 < length listed → (BadField ≡ a) ↔ A) (absent : length listed ≤ 32 → got ≡ Nothing → (NotFound ≡ a) ↔ A)
-      (without : length listed ≤ 32 → Without → (InsufficientRights ≡ a) ↔ A)
-      (with′ : length listed ≤ 32 → (e : CapabilityEntry) → got ≡ Entry e → holds (e .rights .0) (2 ^ 4) ≡ true → ¬ A)
+  abbrev byToken : Answer
+  byToken = revokingToken d token time listed after .reply .answer
+
+  module _ (a : Answer) (A : Type 0) (many : 32 < length listed → (BadField ≡ a) ↔ A)
+      (absent : length listed ≤ 32 → got ≡ Nothing → (NotFound ≡ a) ↔ A)
+      (without : length listed ≤ 32 → Without → (InsufficientRights ≡ a) ↔ A) (with′ : length listed ≤ 32 → With → (byToken ≡ a) ↔ A)
     where
       by-holding : (revokeHeldOut mem s token time listed .reply .answer ≡ a) ↔ A
       by-holding =
@@ -64,14 +69,18 @@ module _ (mem : List ℕ) (sound : Sound mem) (s : ℕ) (there : s < numbersOf m
           go few Nothing is = absent few is
           go few (Entry e) is =
               when-by-cases (Exactly a A) _ _ (not (holds (e .rights .0) (2 ^ 4))) (λ h. without few (e, (is, not-true _ h)))
-              (λ h. not-own _ a (revoking-token-own d after token time listed) low high (with′ few e is (not-false _ h)))
+              (λ h. with′ few (e, (is, not-false _ h)))
+
+  -- With REVOKE it is given none of 21, 8 and 2.
+  not-by-token : (a : Answer) {A : Type 0} → 0 < numberOf a → numberOf a < 24 → ¬ A → (byToken ≡ a) ↔ A
+  not-by-token a = not-own _ a (revoking-token-own d after token time listed)
 
   pub held-told-21 : (revokeHeldOut mem s token time listed .reply .answer ≡ BadField) ↔ (32 < length listed)
   held-told-21 =
-      by-holding BadField (32 < length listed) (omega arith) (omega arith) (λ many. given refl many)
+      by-holding BadField (32 < length listed) (λ many. given refl many)
       (λ few none. not-given NotFound BadField (λ e. omega arith) (λ many. omega arith))
       (λ few without. not-given InsufficientRights BadField (λ e. omega arith) (λ many. omega arith))
-      (λ few e is with′ many. omega arith)
+      (λ few with′. not-by-token BadField (omega arith) (omega arith) (λ many. omega arith))
 
   -- An entry is not nothing, and has its rights.
   held-once : (g : Got) (e : CapabilityEntry) → g ≡ Entry e → g ≡ Nothing → ⊥
@@ -80,10 +89,8 @@ module _ (mem : List ℕ) (sound : Sound mem) (s : ℕ) (there : s < numbersOf m
   one-entry : (g : Got) (e e′ : CapabilityEntry) → g ≡ Entry e → g ≡ Entry e′ → e ≡ e′
   one-entry g e e′ is is′ = cc
 
-  lacks-it :
-      (e e′ : CapabilityEntry) → got ≡ Entry e → got ≡ Entry e′ → holds (e .rights .0) (2 ^ 4) ≡ false
-      → holds (e′ .rights .0) (2 ^ 4) ≡ true → ⊥
-  lacks-it e e′ is is′ lacks has =
+  not-both : Without → With → ⊥
+  not-both (e, (is, lacks)) (e′, (is′, has)) =
       let same : e′ ≡ e = one-entry got e′ e is′ is in
       true≢false (sym has ∙ ap (λ (x : CapabilityEntry). holds (x .rights .0) (2 ^ 4)) same ∙ lacks)
 
@@ -92,54 +99,43 @@ module _ (mem : List ℕ) (sound : Sound mem) (s : ℕ) (there : s < numbersOf m
         (revokeHeldOut mem s token time listed .reply .answer ≡ NotFound)
         ↔ (lookedUp (spaceOf (numbersOf mem) s mem) token .got ≡ Nothing)
     held-told-8 =
-        by-holding NotFound (got ≡ Nothing) (omega arith) (omega arith) (λ many. absurd (omega arith)) (λ few none. given refl none)
+        by-holding NotFound (got ≡ Nothing) (λ many. absurd (omega arith)) (λ few none. given refl none)
         (λ few (e, (is, lacks)). not-given InsufficientRights NotFound (λ e. omega arith) (held-once got e is))
-        (λ few e is with′. held-once got e is)
+        (λ few (e, (is, has)). not-by-token NotFound (omega arith) (omega arith) (held-once got e is))
 
     pub held-told-2 : (revokeHeldOut mem s token time listed .reply .answer ≡ InsufficientRights) ↔ Without
     held-told-2 =
-        by-holding InsufficientRights Without (omega arith) (omega arith) (λ many. absurd (omega arith))
+        by-holding InsufficientRights Without (λ many. absurd (omega arith))
         (λ few none. not-given NotFound InsufficientRights (λ e. omega arith) (λ (e, (is, lacks)). held-once got e is none))
         (λ few without. given refl without)
-        (λ few e is with′ (e′, (is′, lacks)). lacks-it e′ e is′ is lacks with′)
+        (λ few with′. not-by-token InsufficientRights (omega arith) (omega arith) (λ without. not-both without with′))
 
     -- Held with REVOKE, it answers as it would by the token alone.
+    counted : byToken ≡ revokeCapabilityOut mem token time listed .reply .answer
+    counted =
+        rw (revoke-capability-called mem sound time listed few token)
+        (ap (λ (r : Reply). r .answer) (counted-answers d mem sound s there token token time listed))
+
     pub held-answers :
         (e : CapabilityEntry) → lookedUp (spaceOf (numbersOf mem) s mem) token .got ≡ Entry e → holds (e .rights .0) (2 ^ 4) ≡ true
         → revokeHeldOut mem s token time listed .reply .answer ≡ revokeCapabilityOut mem token time listed .reply .answer
-    held-answers e is with′ =
-        rw (held-with-revoke mem sound time listed few s token there e is with′, revoke-capability-called mem sound time listed few token)
-        (ap (λ (r : Reply). r .answer) (counted-answers d mem sound s there token token time listed))
+    held-answers e is with′ = rw (held-with-revoke mem sound time listed few s token there e is with′) counted
 
     -- So 0, 24 and 25 are given exactly where it is held with REVOKE and they would be given by the token alone.
-    abbrev pub With : Type 0
-    With = (e : CapabilityEntry) × ((got ≡ Entry e) × (holds (e .rights .0) (2 ^ 4) ≡ true))
-
-    abbrev ByToken : Answer → Type 0
-    ByToken a = revokeCapabilityOut mem token time listed .reply .answer ≡ a
-
-    held-told-own : (a : Answer) → Own a → (revokeHeldOut mem s token time listed .reply .answer ≡ a) ↔ (With × ByToken a)
+    held-told-own :
+        (a : Answer) → Own a
+        → (revokeHeldOut mem s token time listed .reply .answer ≡ a)
+        ↔ (With × (revokeCapabilityOut mem token time listed .reply .answer ≡ a))
     held-told-own a own =
-        held-by-cases mem time listed (Exactly a (With × ByToken a)) (λ bad. absurd (bad sound)) s token (λ sound far. absurd (omega arith))
-        (λ sound there many. absurd (omega arith))
-        (λ sound there few. go got refl)
+        by-holding a _ (λ many. absurd (omega arith))
+        (λ few none. not-given NotFound a (other 8 (λ z. omega arith) (λ z. omega arith) (λ z. omega arith))
+        (λ ((e, (is, has)), gives). held-once got e is none))
+        (λ few without. not-given InsufficientRights a (other 2 (λ z. omega arith) (λ z. omega arith) (λ z. omega arith))
+        (λ (with′, gives). not-both without with′))
+        (λ few with′. (λ gives. (with′, sym counted ∙ gives), λ (held, gives). counted ∙ gives))
       where
-        go : (g : Got) → got ≡ g → Exactly a (With × ByToken a) (outFor g)
-        go Nothing none =
-            not-given NotFound a (λ e. own-not a own 8 (λ z. omega arith) (λ z. omega arith) (λ z. omega arith) (sym e))
-            (λ ((e, (is, has)), gives). held-once got e is none)
-        go (Entry e) is =
-            when-by-cases (Exactly a (With × ByToken a)) _ _ (not (holds (e .rights .0) (2 ^ 4)))
-            (λ h.
-            not-given InsufficientRights a
-            (λ e. own-not a own 2 (λ z. omega arith) (λ z. omega arith) (λ z. omega arith) (sym e))
-            (λ ((e′, (is′, has)), gives). lacks-it e e′ is is′ (not-true _ h) has))
-            (λ h. (λ gives. ((e, (is, not-false _ h)), sym by-token ∙ gives), λ (held, gives). by-token ∙ gives))
-          where
-            by-token : revokingToken d token time listed after .reply .answer ≡ revokeCapabilityOut mem token time listed .reply .answer
-            by-token =
-                rw (revoke-capability-called mem sound time listed few token)
-                (ap (λ (r : Reply). r .answer) (counted-answers d mem sound s there token token time listed))
+        other : (k : ℕ) → k ≢ 0 → k ≢ 24 → k ≢ 25 → k ≢ numberOf a
+        other k not-0 not-24 not-25 e = own-not a own k not-0 not-24 not-25 (sym e)
 
     pub held-told-24 :
         (revokeHeldOut mem s token time listed .reply .answer ≡ LogFull)
@@ -159,25 +155,19 @@ module _ (mem : List ℕ) (sound : Sound mem) (s : ℕ) (there : s < numbersOf m
 -- ---- a batch
 
 module _ (mem : List ℕ) (sound : Sound mem) (tokens : List ℕ) (time : ℕ) (listed : List ℕ) where
-  abbrev TooLong : Type 0
-  TooLong = (65535 < length tokens) ⊎ (32 < length listed)
-
   pub batch-told-21 :
       (revokeBatchOut mem tokens time listed .reply .answer ≡ BadField) ↔ ((65535 < length tokens) ⊎ (32 < length listed))
   batch-told-21 =
-      batch-by-cases mem time listed (λ (out : Left Reply). (out .reply .answer ≡ BadField) ↔ TooLong) (λ bad. absurd (bad sound)) tokens
+      batch-by-cases mem time listed (Exactly BadField ((65535 < length tokens) ⊎ (32 < length listed))) (λ bad. absurd (bad sound)) tokens
       (λ sound many. given refl (inl many)) (λ sound fits many. given refl (inr many))
-      (λ sound fits few. (
-        λ e. absurd (omega (arith, ap numberOf (sym (each-done (numbersOf mem) tokens time listed 0 mem) ∙ e))),
-        λ long. absurd (⊎-elim (λ many. omega arith) (λ many. omega arith) long),
-      ))
+      (λ sound fits few.
+      rw (each-done (numbersOf mem) tokens time listed 0 mem)
+      (not-given Done BadField (λ e. omega arith) (⊎-elim (λ many. omega arith) (λ many. omega arith))))
 
   pub batch-told-0 :
       (revokeBatchOut mem tokens time listed .reply .answer ≡ Done) ↔ ((length tokens ≤ 65535) × (length listed ≤ 32))
   batch-told-0 =
-      batch-by-cases mem time listed
-      (λ (out : Left Reply). (out .reply .answer ≡ Done) ↔ ((length tokens ≤ 65535) × (length listed ≤ 32)))
-      (λ bad. absurd (bad sound)) tokens
+      batch-by-cases mem time listed (Exactly Done ((length tokens ≤ 65535) × (length listed ≤ 32))) (λ bad. absurd (bad sound)) tokens
       (λ sound many. not-given BadField Done (λ e. omega arith) (λ (fits, few). omega arith))
       (λ sound fits many. not-given BadField Done (λ e. omega arith) (λ (fits, few). omega arith))
       (λ sound fits few. given (each-done (numbersOf mem) tokens time listed 0 mem) (fits, few))
