@@ -41,6 +41,14 @@ module _ (mem : List ℕ) (token time : ℕ) (listed : List ℕ) (P : List ℕ �
   abbrev place : ℕ
   place = placeIn d mem (idOf token)
 
+  either-given :
+      (Sound mem → place < registeredOf mem → Given P (revoking d place time listed mem))
+      → (Sound mem → registeredOf mem ≤ place → Given P (loggingToken d token mem)) → Given P (revokeCapabilityOut mem token time listed)
+  either-given inside outside =
+      revoke-capability-by-cases mem time listed (Given P) (λ bad. not-done _ (λ e. omega arith)) token
+      (λ sound many. not-done _ (λ e. omega arith))
+      (λ sound few. revoking-token-by-cases d mem (Given P) token time listed (inside sound) (outside sound))
+
   -- From a registered place.
   module _ (made : Sound mem → place < registeredOf mem → Given P (revoking (numbersOf mem) place time listed mem)) where
     pub revoke-given : Given P (revokeOut mem token time listed)
@@ -51,19 +59,13 @@ module _ (mem : List ℕ) (token time : ℕ) (listed : List ℕ) (P : List ℕ �
         (λ sound few. made sound)
 
     pub revoke-capability-given : place < registeredOf mem → Given P (revokeCapabilityOut mem token time listed)
-    revoke-capability-given inside =
-        revoke-capability-by-cases mem time listed (Given P) (λ bad. not-done _ (λ e. omega arith)) token
-        (λ sound many. not-done _ (λ e. omega arith))
-        (λ sound few. revoking-token-by-cases d mem (Given P) token time listed (made sound) (λ outside. absurd (omega arith)))
+    revoke-capability-given inside = either-given made (λ sound outside. absurd (omega arith))
 
   -- Of an id that is not registered.
   pub revoke-capability-listed :
       registeredOf mem ≤ place → (Sound mem → Given P (loggingToken (numbersOf mem) token mem))
       → Given P (revokeCapabilityOut mem token time listed)
-  revoke-capability-listed outside made =
-      revoke-capability-by-cases mem time listed (Given P) (λ bad. not-done _ (λ e. omega arith)) token
-      (λ sound many. not-done _ (λ e. omega arith))
-      (λ sound few. revoking-token-by-cases d mem (Given P) token time listed (λ inside. absurd (omega arith)) (λ outside. made sound))
+  revoke-capability-listed outside made = either-given (λ sound inside. absurd (omega arith)) (λ sound outside. made sound)
 
   -- By a token that a space holds, from the memory with the lookup counted,
   module _ (s : ℕ) where
