@@ -21,7 +21,7 @@ use Rattle.steps.specs.Ready.{Ready}
 use Rattle.steps.specs.declared.Entered.{Entered}
 use Rattle.steps.specs.declared.Entered.the-variants.{Refused, Good}
 use Rattle.steps.proofs.laws.Ready.{ready-at}
-use Rattle.steps.proofs.Leaving.{left-both}
+use Rattle.steps.proofs.Leaving.{left-both, area-both}
 
 -- What follows of what the code sees.
 abbrev pub go-on : {A : Type 0} → (Answer → A) → (Numbers → A) → Entered → A
@@ -141,8 +141,23 @@ module _ (mem : List ℕ) (s : ℕ) (r : Entered) (seen : r ≡ enteredSpace mem
   pub entered-there : (d : Numbers) → r ≡ Good d → s < d .spaces
   entered-there d is = space-ready mem s r seen d is .1
 
--- What every call of a space asks and answers once it was entered.
+module _ (mem : List ℕ) (r : Entered) (seen : r ≡ enteredWorld mem) where
+  module _ {A : Type 0} (refuse : Answer → A) (call : Numbers → A) (out : A) where
+    pub world-refuses : (a : Answer) → r ≡ Refused a → out ≡ refuse a → out ≡ onWorld refuse mem call
+    world-refuses a is told = told ∙ sym (world-refusal mem r seen refuse call a is)
+
+    pub world-makes : (d : Numbers) → r ≡ Good d → out ≡ call d → out ≡ onWorld refuse mem call
+    world-makes d is told = told ∙ sym (world-call mem r seen d is refuse call)
+
+  -- The words of the head are there to be read.
+  pub world-head : (d : Numbers) → r ≡ Good d → (i : ℕ) → i < 16 → i < length mem
+  world-head d is i l = omega (arith, world-ready mem r seen d is .head)
+
+-- What every call of a space asks and answers once it was entered,
 pub ruleset enters = (refuses, makes, entered-ready, entered-there, left-both)
+
+-- and every call of the world.
+pub ruleset world-enters = (world-refuses, world-makes, world-ready, world-head, left-both, area-both)
 
 -- ---- the code's own ways
 

@@ -14,6 +14,11 @@ pub left-is : {A : Type 0} {r r′ : A} {m m′ : List ℕ} {x : Left A} → r �
     → record { reply = r; memory = m } ≡ x
 left-is same kept is = left-both _ _ _ _ same kept ∙ sym is
 
+pub area-both :
+    (r r′ : Reply) (a a′ : List ℕ) → r ≡ r′ → a ≡ a′
+    → _≡_ {A = WithArea} (record { reply = r; area = a }) (record { reply = r′; area = a′ })
+area-both r r′ a a′ same kept = ap₂ (λ r a. record { reply = r; area = a }) same kept
+
 pub area-is : {r r′ : Reply} {a a′ : List ℕ} {x : WithArea} → r ≡ r′ → a ≡ a′ → x ≡ record { reply = r′; area = a′ }
     → record { reply = r; area = a } ≡ x
-area-is same kept is = ap₂ {C = WithArea} (λ r a. record { reply = r; area = a }) same kept ∙ sym is
+area-is same kept is = area-both _ _ _ _ same kept ∙ sym is

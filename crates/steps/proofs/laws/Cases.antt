@@ -4,7 +4,7 @@ use mathlib.Core.Bool.{Bool, true, false, not}
 use mathlib.Core.Logic.{_↔_, _≢_}
 use mathlib.Core.Path.{_≡_, refl, sym, ap, _∙_}
 use Prim.Native.Nat.{ℕ, _≤_, _<_}
-use borrow.Author.Tests.{ltb-true, ltb-false, not-true, not-false}
+use borrow.Author.Tests.{ltb-true, ltb-false, not-true, not-false, lt-ltb, le-ltb, le-leb, lt-leb}
 use lib.Dec.{ltb}
 use Rattle.answers.specs.Number.{numberOf}
 use Rattle.answers.specs.declared.Answer.{Answer}
@@ -35,6 +35,15 @@ module _ {A : Type 0} (b : Bool) (this rest out : A) where
 
   pub when-goes-on : b ≡ false → out ≡ rest → out ≡ when b this rest
   when-goes-on test is = is ∙ sym (when-no b this rest test)
+
+pub not-below : (k n : ℕ) → n ≤ k → not (ltb k n) ≡ true
+not-below k n over = ap not (le-ltb k n over)
+
+pub is-below : (k n : ℕ) → k < n → not (ltb k n) ≡ false
+is-below k n under = ap not (lt-ltb k n under)
+
+-- A chain of refusals whose tests are of numbers.
+pub ruleset chooses = (when-ends, when-goes-on, lt-ltb, le-ltb, le-leb, lt-leb, not-below, is-below)
 
 -- What is stated where a test holds, and where it does not.
 abbrev pub stated : Bool → Type 0 → Type 0 → Type 0
