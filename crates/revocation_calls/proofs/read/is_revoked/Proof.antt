@@ -1,5 +1,4 @@
 -- Entered, the log is asked for the token's pair.
-use borrow.Author.Needs.{needs}
 use mathlib.Core.Bool.{Bool}
 use mathlib.Core.List.{List}
 use mathlib.Core.Path.{_≡_, sym, ap, _∙_}
@@ -7,7 +6,8 @@ use Prim.Native.Nat.{ℕ, _%_, _^_}
 use Rattle.base.specs.Below.{one}
 use Rattle.revocation.specs.Log.{logHas}
 use Rattle.revocation_steps.specs.Revocation.{logOf}
-use Rattle.steps.proofs.Entering.{world-refusal, world-call, world-ready, world-sound}
+use Rattle.steps.proofs.Entering.{world-call, world-ready, world-sound}
+use Rattle.steps.proofs.WorldCalls.{world-calls}
 use Rattle.steps.specs.Enter.{enteredWorld}
 use Rattle.steps.specs.Replies.{done}
 use Rattle.steps.specs.declared.Entered.{Entered}
@@ -40,12 +40,6 @@ returns c =
     c .done .ensures
     ∙ told _ _ (seen .before .before .enter-world .ensures) _ (seen .d .given .1) _ _ _ (asked .has-pair .ensures) (c .before .if1 .taken)
 
-returns-2 : tie.Need-returns-2
-unfolding isRevokedOut
-returns-2 c =
-    let seen = c .before .before in
-    c .refusal .ensures ∙ sym (world-refusal _ _ (seen .before .before .enter-world .ensures) _ _ _ (seen .answer .given .1))
-
 returns-3 : tie.Need-returns-3
 returns-3 c =
     let asked = c .before .before in
@@ -54,7 +48,8 @@ returns-3 c =
     ∙ told _ _ (seen .before .before .enter-world .ensures) _ (seen .d .given .1) _ _ _ (asked .has-pair .ensures) (c .before .if1 .left)
 
 pub is-revoked-spec : {M : Type 1} → statement M
+unfolding isRevokedOut
 is-revoked-spec =
     tie.close
-    (tie.spec (λ c κs. search needs) (λ c. search needs) (λ c κs. search needs) (λ c. search needs) has-pair-requires (λ c κs. search needs)
-    returns (λ c κs. search needs) returns-2 returns-3)
+    (tie.spec (λ c κs. search world-calls) (λ c. search world-calls) (λ c κs. search world-calls) (λ c. search world-calls)
+    has-pair-requires (λ c κs. search world-calls) returns (λ c κs. search world-calls) (λ c. search world-calls) returns-3)
