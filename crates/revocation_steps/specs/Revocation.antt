@@ -101,13 +101,6 @@ carriedOut d ks ids pairs time listed mem =
     (addStep revokedWord (length ks)
     (onRegion d registry (marked (d .places) ks) mem))))
 
--- For the laws: the memory that the cascade of place r leaves where it is refused nothing, and the new queues that it needs.
-unfoldable pub revokeStep : Numbers → ℕ → ℕ → List ℕ → List ℕ → List ℕ
-revokeStep d r time listed mem = carriedOut d (cascade d mem r) (cascadeIds d mem r) (cascadePairs d mem r) time listed mem
-
 -- How many new queues a cascade over `count` places needs: none where it revokes no descendant.
 abbrev pub queuesNeeded : Numbers → List ℕ → List ℕ → ℕ → ℕ
 queuesNeeded d mem listed count = pick (ltb 1 count) (newQueues d mem listed) 0
-
-abbrev pub cascadeQueues : Numbers → List ℕ → ℕ → List ℕ → ℕ
-cascadeQueues d mem r listed = queuesNeeded d mem listed (length (cascade d mem r))

@@ -9,8 +9,8 @@ use Rattle.manager_laws.proofs.laws.Spent.{NoneFreed, none-refl, none-trans, no
 use Rattle.registry.specs.Words.{recycledAt}
 use Rattle.revocation_calls.proofs.laws.RevokingWays.{pairsAfter, newPair, pairsWith}
 use Rattle.revocation_laws.proofs.laws.Steady.{Steady}
-use Rattle.revocation_steps.specs.Revocation.{logStep, revokeStep}
-use Rattle.revocation_steps.proofs.laws.CascadeSteps.{revoke-step-word}
+use Rattle.revocation_steps.specs.Revocation.{logStep}
+use Rattle.revocation_steps.proofs.laws.CascadeSteps.{revokeStep, revoke-step-word}
 use Rattle.revocation_steps.proofs.laws.LogSteps.{log-step-holdings}
 use Rattle.revocation_steps.proofs.laws.QueueSteps.{notify-step, free-step}
 use Rattle.revocation_steps.proofs.laws.Revoked.{revoke-step-recycled}

@@ -9,7 +9,8 @@ use lib.ListN.{length}
 use Rattle.answers.specs.declared.Answer.the-variants.{LogFull, PidTableFull}
 use Rattle.registry.specs.Words.{revoked}
 use Rattle.revocation.specs.Log.{pairOf, absentOf}
-use Rattle.revocation_steps.specs.Revocation.{logOf, logStep, freeQueues, cascadePairs, cascadeQueues, revokeStep}
+use Rattle.revocation_steps.specs.Revocation.{logOf, logStep, freeQueues, cascadePairs}
+use Rattle.revocation_steps.proofs.laws.CascadeSteps.{revokeStep, cascadeQueues}
 use Rattle.steps.specs.Replies.{Left, done, refuse}
 use Rattle.steps.specs.Steps.{placeIn, addStep}
 use Rattle.steps.specs.declared.Reply.{Reply}

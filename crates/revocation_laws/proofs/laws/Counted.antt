@@ -9,7 +9,8 @@ use lib.ListN.{getD}
 use Rattle.answers.specs.declared.Answer.the-variants.{LogFull, PidTableFull}
 use Rattle.base.specs.Choose.{pick, when}
 use Rattle.registry.specs.Words.{revoked}
-use Rattle.revocation_steps.specs.Revocation.{freeQueues, cascadeQueues}
+use Rattle.revocation_steps.specs.Revocation.{freeQueues}
+use Rattle.revocation_steps.proofs.laws.CascadeSteps.{cascadeQueues}
 use Rattle.revocation_steps.proofs.laws.SameQueues.{same-free-queues, same-new-queues}
 use Rattle.space.specs.Lookup.{counted}
 use Rattle.space.proofs.laws.Kept.{lookup-keeps}

@@ -10,7 +10,8 @@ use Rattle.answers.specs.Number.{numberOf}
 use Rattle.answers.specs.declared.Answer.{Answer}
 use Rattle.answers.specs.declared.Answer.the-variants.{Done, InvalidCapability, BadField, LogFull, PidTableFull}
 use Rattle.registry.specs.Words.{revoked}
-use Rattle.revocation_steps.specs.Revocation.{freeQueues, cascadeQueues}
+use Rattle.revocation_steps.specs.Revocation.{freeQueues}
+use Rattle.revocation_steps.proofs.laws.CascadeSteps.{cascadeQueues}
 use Rattle.steps.specs.Steps.{placeIn}
 use Rattle.steps.proofs.laws.Cases.{Exactly, given, not-given}
 use Rattle.token.specs.Token.{idOf}

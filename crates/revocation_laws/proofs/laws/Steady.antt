@@ -13,7 +13,8 @@ use Rattle.revocation_calls.specs.Calls.{revokeOut, revokeCapabilityOut, revoke
 use Rattle.revocation_calls.specs.Revoking.{revokingToken, revokingHeld, revokingEach}
 use Rattle.revocation_calls.proofs.laws.Kept.{revoking-token-kept}
 use Rattle.revocation_calls.proofs.laws.RevokingWays.{pairsAfter, newPair, pairsWith, revoking-leaves, token-leaves}
-use Rattle.revocation_steps.specs.Revocation.{logStep, queueFor, notifyStep, freeStep, revokeStep}
+use Rattle.revocation_steps.specs.Revocation.{logStep, queueFor, notifyStep, freeStep}
+use Rattle.revocation_steps.proofs.laws.CascadeSteps.{revokeStep}
 use Rattle.space.specs.Lookup.{lookedUp}
 use Rattle.steps.specs.Replies.{Left, WithArea}
 use Rattle.steps.specs.Steps.{spaceOf, lookupStep, addStep}

@@ -14,8 +14,8 @@ use Rattle.world.specs.Numbers.{registeredOf, loggedOf}
 use Rattle.world.specs.Regions.{registry, view}
 use Rattle.world.specs.Sound.{SoundAt}
 use Rattle.world.specs.declared.Numbers.{Numbers}
-use Rattle.revocation_steps.specs.Revocation.{notifyAll, freeQueues, cascade, cascadeIds, cascadePairs, cascadeQueues, revokeStep}
-use Rattle.revocation_steps.proofs.laws.CascadeSteps.{unnotified, unnotified-kept, unnotified-queue}
+use Rattle.revocation_steps.specs.Revocation.{notifyAll, freeQueues, cascade, cascadeIds, cascadePairs}
+use Rattle.revocation_steps.proofs.laws.CascadeSteps.{revokeStep, cascadeQueues, unnotified, unnotified-kept, unnotified-queue}
 use Rattle.revocation_steps.proofs.laws.NoticesSent.{Room, sentTo, all-stay, all-sent}
 use Rattle.revocation_steps.proofs.laws.SameQueues.{noticesOf, same-free-queues, same-new-queues, same-notices}
 

@@ -20,7 +20,7 @@ use Rattle.world.specs.Regions.{space, registry, log, queue, lengthFor, view, o
 use Rattle.world.specs.Sound.{spacesWith, SoundAt}
 use Rattle.world.specs.Views.{registry-words}
 use Rattle.world.specs.declared.Numbers.{Numbers}
-use Rattle.revocation_steps.specs.Revocation.{logStep, cascade, cascadeIds, cascadePairs, revokeStep}
+use Rattle.revocation_steps.specs.Revocation.{logStep, cascade, cascadeIds, cascadePairs, carriedOut, queuesNeeded}
 use Rattle.steps.specs.Steps.{addStep}
 use Rattle.steps.proofs.laws.Kept.{Kept, kept-trans, registry-rules}
 use Rattle.steps.proofs.laws.RegistryChanged.{RegistryChanged, only-registry-changed, recycled-changed-kept}
@@ -39,7 +39,14 @@ marks d mem enough ks inside =
     only-registry-changed d mem enough (marked (d .places) ks)
     (marked-only (d .places) ks _ inside (registry-words d mem enough) .same-length)
 
--- What a cascade from place r leaves but for its notices.
+-- What a cascade from place r leaves where it is refused nothing, and the new queues that it needs.
+unfoldable pub revokeStep : Numbers → ℕ → ℕ → List ℕ → List ℕ → List ℕ
+revokeStep d r time listed mem = carriedOut d (cascade d mem r) (cascadeIds d mem r) (cascadePairs d mem r) time listed mem
+
+abbrev pub cascadeQueues : Numbers → List ℕ → ℕ → List ℕ → ℕ
+cascadeQueues d mem r listed = queuesNeeded d mem listed (length (cascade d mem r))
+
+-- What it leaves but for its notices.
 abbrev pub unnotified : Numbers → ℕ → List ℕ → List ℕ
 unnotified d r mem =
     let ks = cascade d mem r in

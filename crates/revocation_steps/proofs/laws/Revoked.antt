@@ -20,8 +20,8 @@ use Rattle.world.specs.Regions.{registry, log, view}
 use Rattle.world.specs.Sound.{ids, states, links, recycled, SoundAt}
 use Rattle.world.specs.Views.{length-view, registry-words}
 use Rattle.world.specs.declared.Numbers.{Numbers}
-use Rattle.revocation_steps.specs.Revocation.{cascadeIds, cascadePairs, revokeStep}
-use Rattle.revocation_steps.proofs.laws.CascadeSteps.{cascade-marked, revoke-step-registry, revoke-step-logged, revoke-step-log}
+use Rattle.revocation_steps.specs.Revocation.{cascadeIds, cascadePairs}
+use Rattle.revocation_steps.proofs.laws.CascadeSteps.{revokeStep, cascade-marked, revoke-step-registry, revoke-step-logged, revoke-step-log}
 
 module _ (d : Numbers) (mem : List ℕ) (sound : SoundAt d mem) (r : ℕ) (inside : r < registeredOf mem)
     (fits : loggedOf mem + length (cascadePairs d mem r) ≤ d .pairs) (time : ℕ) (pids : List ℕ)
