@@ -3,7 +3,7 @@
 use mathlib.Core.Bool.{true}
 use mathlib.Core.List.{List, [], _∷_}
 use mathlib.Core.Logic.{_↔_, _≢_, _⊎_, inl, inr, ⊎-elim}
-use mathlib.Core.Path.{_≡_, ap, _∙_}
+use mathlib.Core.Path.{_≡_, ap}
 use Prim.Native.Nat.{ℕ, _+_, _%_, _^_, _≤_, _<_}
 use native.Mathlib.Omega.{arith}
 use lib.ListN.{length, getD, take}
@@ -11,16 +11,14 @@ use Rattle.answers.specs.Number.{numberOf}
 use Rattle.answers.specs.declared.Answer.the-variants.{Done}
 use Rattle.base.specs.Distinct.{Differ}
 use Rattle.base.specs.Members.{in-one}
-use Rattle.revocation.specs.Log.{pairOf, logHas, appended}
+use Rattle.revocation.specs.Log.{pairOf, logHas}
 use Rattle.revocation.specs.LogLaws.{take-appended, has-joined}
 use Rattle.revocation_steps.specs.Revocation.{logStep}
-use Rattle.revocation_steps.proofs.laws.LogSteps.{log-step-word, log-step-holdings, log-step-queue, log-step-logged, log-step-log}
-use Rattle.revocation_steps.proofs.laws.SameHoldings.{SameHoldings}
+use Rattle.revocation_steps.proofs.laws.LogSteps.{PairsJoined, join-step}
 use Rattle.steps.specs.Replies.{Left}
 use Rattle.steps.specs.Steps.{spaceOf, lookupStep, placeIn, addStep}
 use Rattle.steps.specs.declared.Reply.{Reply}
 use Rattle.steps.proofs.laws.Kept.{Kept}
-use Rattle.steps.proofs.laws.RegistryChanged.{RegistryChanged, word-changed}
 use Rattle.steps.proofs.laws.SpaceSteps.{lookup-step-kept}
 use Rattle.token.specs.Token.{idOf, generationOf}
 use Rattle.world.specs.Numbers.{numbersOf, epochOf, registeredOf, loggedOf, epochWord}
@@ -62,46 +60,30 @@ module _ (d : Numbers) (mem : List ℕ) (sound : SoundAt d mem) (token : ℕ) wh
   lg = view d log mem
 
   module _ (fits : pairsWith d mem token ≤ d .pairs) where
-    abbrev between : List ℕ
-    between = logStep d new mem
-
     abbrev after : List ℕ
-    after = addStep epochWord 1 between
+    after = addStep epochWord 1 (logStep d new mem)
 
-    holdings : SameHoldings d mem between
-    holdings = log-step-holdings d mem (sound .long-enough) new fits
-
-    epoch-counted : RegistryChanged d (view d registry between) epochWord ((epochOf between + 1) % 2 ^ 64) between after
-    unfolding addStep
-    epoch-counted = word-changed d between (rw (holdings .same-length) (sound .long-enough)) epochWord _ (omega arith) (omega arith)
+    joined : PairsJoined d new 1 mem after
+    joined = join-step d mem (sound .long-enough) new fits 1
 
     room : n + length new ≤ length lg
     room = omega (arith, length-view d log mem tt (sound .long-enough))
 
-    logged : loggedOf after ≡ n + length new
-    logged = epoch-counted .apart .logged ∙ log-step-logged d mem (sound .long-enough) new fits
-
-    same-words : view d log after ≡ appended n new lg
-    same-words = epoch-counted .apart .same-log ∙ log-step-log d mem (sound .long-enough) new fits
-
     logged-only : Kept d mem after → OnlyLogged d pair mem after
     logged-only kept = record {
-      same-registry = epoch-counted .new-registry ∙ holdings .same-registry;
-      same-spaces = λ s l. epoch-counted .same-space s l ∙ holdings .same-space s l;
-      same-queue = λ q l. epoch-counted .apart .same-queue q l ∙ log-step-queue d mem (sound .long-enough) new fits q l;
-      log-before = rw same-words (take-appended n new lg room);
+      same-registry = joined .holdings .same-registry;
+      same-spaces = joined .holdings .same-space;
+      same-queue = joined .same-queue;
+      log-before = rw (joined .new-log) (take-appended n new lg room);
       log-has = λ p.
           let has = has-joined n (pair ∷ []) lg room p in
-          rw (logged, same-words) (
+          rw (joined .logged, joined .new-log) (
             λ h. ⊎-elim inl (λ one. inr (in-one pair p .0 one)) (has .0 h),
             λ h. has .1 (⊎-elim inl (λ e. inr (in-one pair p .1 e)) h),
           );
       log-once = kept .sound .pairs-differ;
-      epoch =
-          epoch-counted .new-word
-          ∙ ap (λ epoch. (epoch + 1) % 2 ^ 64) (log-step-word d mem (sound .long-enough) new fits epochWord (omega arith) (omega arith));
-      others = λ j l no-epoch no-logged.
-          epoch-counted .same-word j l no-epoch ∙ log-step-word d mem (sound .long-enough) new fits j l no-logged;
+      epoch = joined .epoch;
+      others = joined .others;
     }
 
   listing-means : loggingToken d token mem .reply .answer ≡ Done → OnlyLogged d pair mem (loggingToken d token mem .memory)

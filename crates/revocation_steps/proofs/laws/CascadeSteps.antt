@@ -24,8 +24,7 @@ use Rattle.revocation_steps.specs.Revocation.{logStep, cascade, cascadeI
 use Rattle.steps.specs.Steps.{addStep}
 use Rattle.steps.proofs.laws.Kept.{Kept, kept-trans, registry-rules}
 use Rattle.steps.proofs.laws.RegistryChanged.{RegistryChanged, only-registry-changed, recycled-changed-kept}
-use Rattle.revocation_steps.proofs.laws.SameHoldings.{SameHoldings}
-use Rattle.revocation_steps.proofs.laws.LogSteps.{log-step-word, log-step-holdings, log-step-queue, log-step-logged, log-step-log, log-step-kept}
+use Rattle.revocation_steps.proofs.laws.LogSteps.{PairsJoined, log-step-kept, join-step}
 use Rattle.steps.proofs.laws.RegistrySteps.{add-step, add-step-kept}
 use Rattle.revocation_steps.proofs.laws.QueueSteps.{QueuesKept, notify-all}
 use Rattle.revocation_steps.proofs.laws.Cascade.{cascade-below, cascade-ids-differ, cascade-ids-coded}
@@ -141,24 +140,20 @@ module _ (d : Numbers) (mem : List ℕ) (sound : SoundAt d mem) (r : ℕ) (insid
         (absent-pairs (loggedOf mem) (view d log mem) (cascadeIds d mem r) (cascade-ids-coded d mem sound r inside))
         (absent-differ (loggedOf mem) (view d log mem) (cascadeIds d mem r) (cascade-ids-differ d mem sound r inside)) absent)
 
-    epoch-counted : RegistryChanged d (view d registry withLogged) epochWord ((epochOf withLogged + count) % 2 ^ 64) withLogged withEpoch
-    epoch-counted = add-step d withLogged (logged-kept .sound .long-enough) epochWord count (omega arith) (omega arith)
-
     epoch-kept : Kept d mem withEpoch
     epoch-kept =
         kept-trans d mem withLogged withEpoch logged-kept
         (add-step-kept d withLogged (logged-kept .sound) epochWord count (omega arith) (omega arith))
+
+    joined : PairsJoined d pairs count withCounted withEpoch
+    joined = join-step d withCounted (counted-kept .sound .long-enough) pairs room count
 
     -- Until the notices join, the queues are as they were.
     pub unnotified-kept : Kept d mem (unnotified d r mem)
     unnotified-kept = epoch-kept
 
     pub unnotified-queue : (q : ℕ) → q < d .queues → view d (queue q) (unnotified d r mem) ≡ view d (queue q) mem
-    unnotified-queue q l =
-        epoch-counted .apart .same-queue q l
-        ∙ log-step-queue d withCounted (counted-kept .sound .long-enough) pairs room q l
-        ∙ counted .apart .same-queue q l
-        ∙ mark-step .apart .same-queue q l
+    unnotified-queue q l = joined .same-queue q l ∙ counted .apart .same-queue q l ∙ mark-step .apart .same-queue q l
 
     queued : QueuesKept d withEpoch (revokeStep d r time listed mem)
     unfolding revokeStep
@@ -169,22 +164,17 @@ module _ (d : Numbers) (mem : List ℕ) (sound : SoundAt d mem) (r : ℕ) (insid
 
     -- ---- what then stands in the registry and the spaces
 
-    logged-holdings : SameHoldings d withCounted withLogged
-    logged-holdings = log-step-holdings d withCounted (counted-kept .sound .long-enough) pairs room
-
     pub revoke-step-registry : view d registry (revokeStep d r time listed mem) ≡ marked (d .places) (cascade d mem r) (view d registry mem)
     revoke-step-registry =
         queued .holdings .same-registry
-        ∙ epoch-counted .new-registry
-        ∙ logged-holdings .same-registry
+        ∙ joined .holdings .same-registry
         ∙ counted .new-registry
         ∙ mark-step .new-registry
 
     pub revoke-step-space : (s : ℕ) → s < d .spaces → view d (space s) (revokeStep d r time listed mem) ≡ view d (space s) mem
     revoke-step-space s l =
         queued .holdings .same-space s l
-        ∙ epoch-counted .same-space s l
-        ∙ logged-holdings .same-space s l
+        ∙ joined .holdings .same-space s l
         ∙ counted .same-space s l
         ∙ mark-step .same-space s l
 
@@ -192,28 +182,19 @@ module _ (d : Numbers) (mem : List ℕ) (sound : SoundAt d mem) (r : ℕ) (insid
 
     pub revoke-step-logged : loggedOf (revokeStep d r time listed mem) ≡ loggedOf mem + length (cascadePairs d mem r)
     revoke-step-logged =
-        queued .same-head 13 (omega arith)
-        ∙ epoch-counted .apart .logged
-        ∙ log-step-logged d withCounted (counted-kept .sound .long-enough) pairs room
-        ∙ ap (λ m. m + length pairs) same-logged
+        queued .same-head 13 (omega arith) ∙ joined .logged ∙ ap (λ m. m + length pairs) same-logged
 
     pub revoke-step-log : view d log (revokeStep d r time listed mem) ≡ appended (loggedOf mem) (cascadePairs d mem r) (view d log mem)
-    revoke-step-log =
-        queued .same-log
-        ∙ epoch-counted .apart .same-log
-        ∙ log-step-log d withCounted (counted-kept .sound .long-enough) pairs room
-        ∙ rw (same-logged, same-log) refl
+    revoke-step-log = queued .same-log ∙ joined .new-log ∙ rw (same-logged, same-log) refl
 
     -- ---- in the head
 
     -- The epoch and the number of revoked ids count the cascade, and no word but these and the number of logged pairs changes.
     pub revoke-step-epoch : epochOf (revokeStep d r time listed mem) ≡ (epochOf mem + length (cascade d mem r)) % 2 ^ 64
     revoke-step-epoch =
-        let same : epochOf withLogged ≡ epochOf mem =
-        log-step-word d withCounted (counted-kept .sound .long-enough) pairs room epochWord (omega arith) (λ e. omega arith)
-        ∙ counted .same-word epochWord (omega arith) (λ e. omega arith)
-        ∙ mark-step .same-word epochWord (omega arith) (λ e. omega arith) in
-        queued .same-head epochWord (omega arith) ∙ epoch-counted .new-word ∙ ap (λ epoch. (epoch + count) % 2 ^ 64) same
+        let same : epochOf withCounted ≡ epochOf mem =
+        counted .same-word epochWord (omega arith) (λ e. omega arith) ∙ mark-step .same-word epochWord (omega arith) (λ e. omega arith) in
+        queued .same-head epochWord (omega arith) ∙ joined .epoch ∙ ap (λ epoch. (epoch + count) % 2 ^ 64) same
 
     pub revoke-step-statistic :
         getD (revokeStep d r time listed mem) revokedWord 0 ≡ (getD mem revokedWord 0 + length (cascade d mem r)) % 2 ^ 64
@@ -221,8 +202,7 @@ module _ (d : Numbers) (mem : List ℕ) (sound : SoundAt d mem) (r : ℕ) (insid
         let same : getD withMarked revokedWord 0 ≡ getD mem revokedWord 0 =
         mark-step .same-word revokedWord (omega arith) (λ e. omega arith) in
         queued .same-head revokedWord (omega arith)
-        ∙ epoch-counted .same-word revokedWord (omega arith) (λ e. omega arith)
-        ∙ log-step-word d withCounted (counted-kept .sound .long-enough) pairs room revokedWord (omega arith) (λ e. omega arith)
+        ∙ joined .others revokedWord (omega arith) (λ e. omega arith) (λ e. omega arith)
         ∙ counted .new-word
         ∙ ap (λ before. (before + count) % 2 ^ 64) same
 
@@ -230,7 +210,6 @@ module _ (d : Numbers) (mem : List ℕ) (sound : SoundAt d mem) (r : ℕ) (insid
         (j : ℕ) → j < 16 → j ≢ epochWord → j ≢ revokedWord → j ≢ 13 → getD (revokeStep d r time listed mem) j 0 ≡ getD mem j 0
     revoke-step-word j l no-epoch no-statistic no-logged =
         queued .same-head j l
-        ∙ epoch-counted .same-word j l no-epoch
-        ∙ log-step-word d withCounted (counted-kept .sound .long-enough) pairs room j l no-logged
+        ∙ joined .others j l no-epoch no-logged
         ∙ counted .same-word j l no-statistic
         ∙ by-cases (ℕ-discrete j 12) (λ e. rw e (mark-step .new-word)) (λ other. mark-step .same-word j l other)

@@ -1,10 +1,10 @@
 -- Pairs join the log: of the memory only the log and the number of its pairs change, and a sound memory is kept where the pairs are coded,
 -- differ and are not logged yet.
-use mathlib.Core.Path.{_≡_, refl, _∙_}
+use mathlib.Core.Path.{_≡_, refl, ap, _∙_}
 use mathlib.Core.Logic.{_≢_}
 use mathlib.Core.Bool.{false}
 use mathlib.Core.List.{List}
-use Prim.Native.Nat.{ℕ, _+_, _≤_, _<_}
+use Prim.Native.Nat.{ℕ, _+_, _%_, _^_, _≤_, _<_}
 use native.Mathlib.Omega.{arith}
 use lib.ListN.{length, getD, set, length-set}
 use lib.Seq.{getD-set-same, getD-set-other}
@@ -14,17 +14,28 @@ use Rattle.revocation.specs.LogLaws.{length-appended, pairs-appended, differ-ap
 use Rattle.revocation.specs.Sound.{Pairs}
 use Rattle.revocation.specs.Words.{pairAt}
 use Rattle.world.specs.Layout.{Valid, same}
-use Rattle.world.specs.Numbers.{loggedOf, numbers-set}
+use Rattle.world.specs.Numbers.{loggedOf, epochOf, epochWord, numbers-set}
 use Rattle.world.specs.Regions.{Region, head, space, registry, log, queue, lengthFor, view, onRegion}
 use Rattle.world.specs.Sound.{SoundAt}
 use Rattle.world.specs.Views.{Change, set-head, set-changes, length-view, length-kept, view-same, view-other, past-kept, head-kept, numbers-kept}
 use Rattle.world.specs.declared.Numbers.{Numbers}
 use Rattle.revocation_steps.specs.Revocation.{logStep}
 use Rattle.steps.proofs.laws.Ready.{head-fits}
+use Rattle.steps.specs.Steps.{addStep}
 use Rattle.steps.proofs.laws.Kept.{Kept, set-view}
-use Rattle.revocation_steps.proofs.laws.SameHoldings.{SameHoldings, holdings-kept}
+use Rattle.steps.proofs.laws.RegistrySteps.{add-step}
+use Rattle.revocation_steps.proofs.laws.SameHoldings.{SameHoldings, holdings-trans, holdings-kept}
 
 -- ---- pairs join the log
+
+-- What is left once pairs have joined the log and the epoch has counted them, `count` in all.
+pub record PairsJoined (d : Numbers) (pairs : List ℕ) (count : ℕ) (mem after : List ℕ) : Type 0 where
+  pub holdings : SameHoldings d mem after
+  pub logged : loggedOf after ≡ loggedOf mem + length pairs
+  pub new-log : view d log after ≡ appended (loggedOf mem) pairs (view d log mem)
+  pub same-queue : (q : ℕ) → q < d .queues → view d (queue q) after ≡ view d (queue q) mem
+  pub epoch : epochOf after ≡ (epochOf mem + count) % 2 ^ 64
+  pub others : (j : ℕ) → j < 16 → j ≢ epochWord → j ≢ 13 → getD after j 0 ≡ getD mem j 0
 
 module _ (d : Numbers) (mem : List ℕ) (enough : lengthFor d ≤ length mem) (pairs : List ℕ)
     (fits : loggedOf mem + length pairs ≤ d .pairs)
@@ -84,6 +95,28 @@ module _ (d : Numbers) (mem : List ℕ) (enough : lengthFor d ≤ length mem) (p
     unfolding logStep
     log-step-log =
         set-view d between long 13 (n + length pairs) (omega arith) log tt refl ∙ view-same d log (appended n pairs) mem in-log
+
+    pub join-step : (count : ℕ) → PairsJoined d pairs count mem (addStep epochWord count (logStep d pairs mem))
+    join-step count =
+        let enough′ : lengthFor d ≤ length (logStep d pairs mem) = rw (log-step-holdings .same-length) enough in
+        let counted = add-step d (logStep d pairs mem) enough′ epochWord count (omega arith) (omega arith) in
+        record {
+          holdings = holdings-trans d mem (logStep d pairs mem) _ log-step-holdings (record {
+            numbers = counted .apart .numbers;
+            same-length = counted .apart .same-length;
+            past = counted .apart .past;
+            same-word = λ j l other. counted .same-word j (omega arith) other;
+            same-registry = counted .new-registry;
+            same-space = counted .same-space;
+          });
+          logged = counted .apart .logged ∙ log-step-logged;
+          new-log = counted .apart .same-log ∙ log-step-log;
+          same-queue = λ q l. counted .apart .same-queue q l ∙ log-step-queue q l;
+          epoch =
+              counted .new-word
+              ∙ ap (λ epoch. (epoch + count) % 2 ^ 64) (log-step-word epochWord (omega arith) (λ e. omega arith));
+          others = λ j l no-epoch no-logged. counted .same-word j l no-epoch ∙ log-step-word j l no-logged;
+        }
 
 module _ (d : Numbers) (mem : List ℕ) (sound : SoundAt d mem) (pairs : List ℕ) (fits : loggedOf mem + length pairs ≤ d .pairs) where
   same-queue : (q : ℕ) → q < d .queues → view d (queue q) (logStep d pairs mem) ≡ view d (queue q) mem
