@@ -9,6 +9,9 @@ use native.Mathlib.Omega.{arith}
 use Rattle.answers.specs.Number.{numberOf}
 use Rattle.answers.specs.declared.Answer.{Answer}
 use Rattle.answers.specs.declared.Answer.the-variants.{Done}
+use Rattle.registry.specs.Words.{revoked}
+use Rattle.revocation_steps.specs.Revocation.{freeQueues}
+use Rattle.revocation_steps.proofs.laws.CascadeSteps.{revokeStep, cascadeQueues}
 use Rattle.space.specs.Lookup.{lookedUp}
 use Rattle.steps.specs.Replies.{Left}
 use Rattle.steps.specs.Steps.{spaceOf, lookupStep, placeIn}
@@ -19,11 +22,11 @@ use Rattle.table.specs.declared.Got.the-variants.{Entry, Nothing}
 use Rattle.token.specs.Rights.{holds}
 use Rattle.token.specs.Token.{idOf}
 use Rattle.world.specs.Numbers.{numbersOf, registeredOf}
-use Rattle.world.specs.Sound.{Sound}
+use Rattle.world.specs.Sound.{states, Sound}
 use Rattle.world.specs.declared.Numbers.{Numbers}
 use Rattle.revocation_calls.specs.Calls.{revokeOut, revokeCapabilityOut, revokeHeldOut}
 use Rattle.revocation_calls.specs.Revoking.{revoking, loggingToken, revokingToken, revokingHeld}
-use Rattle.revocation_calls.proofs.laws.RevokingWays.{revoking-token-by-cases}
+use Rattle.revocation_calls.proofs.laws.RevokingWays.{pairsAfter, revoking-by-cases, revoking-token-by-cases}
 use Rattle.revocation_laws.proofs.laws.Counted.{same-registered, same-registry}
 use Rattle.revocation_laws.proofs.laws.Ways.{revoke-by-cases, revoke-capability-by-cases, held-by-cases}
 
@@ -33,6 +36,17 @@ Given P out = out .reply .answer ≡ Done → P (out .memory)
 
 not-done : {A : Type 0} (a : Answer) → numberOf a ≢ 0 → a ≡ Done → A
 not-done a some e = absurd (some (ap numberOf e))
+
+-- A revocation from place r: where it is revoked already, the memory as it was; else what the cascade leaves.
+pub revoking-given :
+    (d : Numbers) (mem : List ℕ) (r time : ℕ) (listed : List ℕ) (P : List ℕ → Type 0) → (revoked (states d mem r) ≡ 1 → P mem)
+    → (revoked (states d mem r) ≡ 0 → pairsAfter d mem r ≤ d .pairs → cascadeQueues d mem r listed ≤ freeQueues d mem
+    → P (revokeStep d r time listed mem))
+    → Given P (revoking d r time listed mem)
+revoking-given d mem r time listed P already goes =
+    revoking-by-cases d mem (Given P) r time listed (λ gone e. already gone) (λ un full. not-done _ (λ e. omega arith))
+    (λ un fits crowded. not-done _ (λ e. omega arith))
+    (λ un fits room e. goes un fits room)
 
 module _ (mem : List ℕ) (token time : ℕ) (listed : List ℕ) (P : List ℕ → Type 0) where
   abbrev d : Numbers

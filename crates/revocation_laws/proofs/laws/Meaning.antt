@@ -3,11 +3,10 @@
 use mathlib.Core.Bool.{true}
 use mathlib.Core.List.{List}
 use mathlib.Core.Logic.{_↔_, _≢_, _⊎_, inl, inr, ⊎-elim}
-use mathlib.Core.Path.{_≡_, refl, sym, ap, _∙_}
+use mathlib.Core.Path.{_≡_, refl, sym, _∙_}
 use Prim.Native.Nat.{ℕ, _+_, _%_, _^_, _<_}
 use native.Mathlib.Omega.{arith}
 use lib.ListN.{length, getD, take}
-use Rattle.answers.specs.Number.{numberOf}
 use Rattle.answers.specs.declared.Answer.the-variants.{Done}
 use Rattle.base.specs.Distinct.{Differ}
 use Rattle.base.specs.Members.{In}
@@ -18,9 +17,7 @@ use Rattle.revocation_steps.specs.Revocation.{cascade, cascadeIds}
 use Rattle.revocation_steps.proofs.laws.Cascade.{cascade-exactly, under-revoked, cascade-ids-exactly}
 use Rattle.revocation_steps.proofs.laws.CascadeSteps.{revoke-step-kept, revoke-step-space, revoke-step-word, revoke-step-epoch, revoke-step-statistic}
 use Rattle.revocation_steps.proofs.laws.Revoked.{revoke-step-revoked, revoke-step-elsewhere, revoke-step-ids, revoke-step-objects, revoke-step-links, revoke-step-holders, revoke-step-lists, revoke-step-recycled, revoke-step-log-before, revoke-step-log-has}
-use Rattle.steps.specs.Replies.{Left}
 use Rattle.steps.specs.Steps.{spaceOf, lookupStep, placeIn, objects}
-use Rattle.steps.specs.declared.Reply.{Reply}
 use Rattle.steps.proofs.laws.SpaceSteps.{lookup-step-kept}
 use Rattle.token.specs.Token.{idOf}
 use Rattle.world.specs.Numbers.{numbersOf, epochOf, registeredOf, recycledOf, loggedOf, epochWord, revokedWord}
@@ -29,9 +26,8 @@ use Rattle.world.specs.Sound.{ids, states, links, recycled, logPairs, SoundAt, 
 use Rattle.world.specs.declared.Numbers.{Numbers}
 use Rattle.revocation_calls.specs.Calls.{revokeOut, revokeCapabilityOut, revokeHeldOut}
 use Rattle.revocation_calls.specs.Revoking.{revoking}
-use Rattle.revocation_calls.proofs.laws.RevokingWays.{revoking-by-cases}
 use Rattle.revocation_laws.proofs.laws.Counted.{same-registry}
-use Rattle.revocation_laws.proofs.laws.Given.{Given, revoke-given, revoke-capability-given, held-given}
+use Rattle.revocation_laws.proofs.laws.Given.{Given, revoking-given, revoke-given, revoke-capability-given, held-given}
 
 -- Place k is registered, and r or below it.
 abbrev pub Descends : Numbers → List ℕ → ℕ → ℕ → Type 0
@@ -113,11 +109,8 @@ module _ (d : Numbers) (mem : List ℕ) (sound : SoundAt d mem) (r : ℕ) (insid
       (time : ℕ) (listed : List ℕ) → revoking d r time listed mem .reply .answer ≡ Done
       → Revokes d r mem (revoking d r time listed mem .memory)
   revoking-means time pids =
-      revoking-by-cases d mem (λ (out : Left Reply). out .reply .answer ≡ Done → Revokes d r mem (out .memory)) r time pids
-      (λ gone e. already-revokes gone)
-      (λ un full e. absurd (omega (arith, ap numberOf e)))
-      (λ un fits crowded e. absurd (omega (arith, ap numberOf e)))
-      (λ un fits room e.
+      revoking-given d mem r time pids (Revokes d r mem) already-revokes
+      (λ un fits room.
       record {
         exactly = revoke-step-revoked d mem sound r inside fits time pids;
         elsewhere = revoke-step-elsewhere d mem sound r inside fits time pids;
@@ -144,12 +137,8 @@ module _ (d : Numbers) (mem : List ℕ) (sound : SoundAt d mem) (r : ℕ) (insid
       (time : ℕ) (listed : List ℕ) → revoking d r time listed mem .reply .answer ≡ Done → revoked (states d mem r) ≡ 0
       → Counts d r mem (revoking d r time listed mem .memory)
   revoking-counts time pids =
-      revoking-by-cases d mem
-      (λ (out : Left Reply). out .reply .answer ≡ Done → revoked (states d mem r) ≡ 0 → Counts d r mem (out .memory)) r time pids
-      (λ gone e un. absurd (omega arith))
-      (λ un full e. absurd (omega (arith, ap numberOf e)))
-      (λ un fits crowded e. absurd (omega (arith, ap numberOf e)))
-      (λ un fits room e _.
+      revoking-given d mem r time pids (λ after. revoked (states d mem r) ≡ 0 → Counts d r mem after) (λ gone un. absurd (omega arith))
+      (λ un fits room _.
       record {
         epoch = revoke-step-epoch d mem sound r inside fits time pids;
         revoked-ids = revoke-step-statistic d mem sound r inside fits time pids;

@@ -37,9 +37,8 @@ use Rattle.world.specs.declared.Numbers.{Numbers}
 use Rattle.notification_calls.specs.Calls.{notifyOut, countFor, peekOut, without, drainOut, cleanupOut}
 use Rattle.revocation_calls.specs.Calls.{revokeOut, revokeCapabilityOut, revokeHeldOut}
 use Rattle.revocation_calls.specs.Revoking.{revoking}
-use Rattle.revocation_calls.proofs.laws.RevokingWays.{revoking-by-cases}
 use Rattle.revocation_laws.proofs.laws.Counted.{same-registered, same-registry, same-queues}
-use Rattle.revocation_laws.proofs.laws.Given.{revoke-given, revoke-capability-given, held-given, held-done}
+use Rattle.revocation_laws.proofs.laws.Given.{revoking-given, revoke-given, revoke-capability-given, held-given, held-done}
 use Rattle.revocation_laws.proofs.laws.NoticeWays.{notify-by-cases, peek-by-cases, drain-by-cases, drain-peeks}
 use Rattle.revocation_laws.proofs.laws.Unregistered.{revoke-capability-unregistered, held-unregistered}
 
@@ -80,15 +79,12 @@ module _ (d : Numbers) (mem : List ℕ) (sound : SoundAt d mem) (r : ℕ) (insid
       → noticesOf d (revoking d r time listed mem .memory) pid ≡ noticesAfter d mem r time listed pid
   unfolding sentTo
   revoking-notices pid =
-      revoking-by-cases d mem
-      (λ (out : Left Reply). out .reply .answer ≡ Done → noticesOf d (out .memory) pid ≡ noticesAfter d mem r time listed pid) r time listed
-      (λ gone e.
+      revoking-given d mem r time listed (λ after. noticesOf d after pid ≡ noticesAfter d mem r time listed pid)
+      (λ gone.
       let none : length (cascadeIds d mem r) ≤ 1 =
       omega (arith, ids-at-length (view d registry mem) (cascade d mem r), cascade-none d mem sound r inside gone) in
       rw (drop-of-length-le (cascadeIds d mem r) none) (sym (all-stay d mem sound pid)))
-      (λ un full e. absurd (omega (arith, ap numberOf e)))
-      (λ un fits crowded e. absurd (omega (arith, ap numberOf e)))
-      (λ un fits room e. revoke-step-notices d mem sound r inside fits time listed room pid)
+      (λ un fits room. revoke-step-notices d mem sound r inside fits time listed room pid)
 
 module _ (mem : List ℕ) (token time : ℕ) (listed : List ℕ) (pid : ℕ) where
   abbrev d : Numbers
