@@ -3,22 +3,19 @@ use mathlib.Core.List.{List}
 use mathlib.Core.Path.{ap}
 use Prim.Native.Nat.{ℕ, _≤_, _<_}
 use native.Mathlib.Omega.{arith}
-use lib.ListN.{length}
-use Rattle.manager_laws.proofs.laws.SameIds.{SameIds, ids-trans, lookup-ids}
+use Rattle.manager_laws.proofs.laws.SameIds.{SameIds, lookup-ids}
 use Rattle.manager_laws.proofs.laws.Spent.{NoneFreed, none-refl, none-trans, none-same}
 use Rattle.registry.specs.Words.{recycledAt}
 use Rattle.revocation_calls.proofs.laws.RevokingWays.{pairsAfter, newPair, pairsWith}
 use Rattle.revocation_laws.proofs.laws.Steady.{Steady}
 use Rattle.revocation_steps.specs.Revocation.{logStep}
 use Rattle.revocation_steps.proofs.laws.CascadeSteps.{revokeStep, revoke-step-word}
-use Rattle.revocation_steps.proofs.laws.LogSteps.{log-step-holdings}
+use Rattle.revocation_steps.proofs.laws.LogSteps.{join-step}
 use Rattle.revocation_steps.proofs.laws.QueueSteps.{notify-step, free-step}
 use Rattle.revocation_steps.proofs.laws.Revoked.{revoke-step-recycled}
 use Rattle.revocation_steps.proofs.laws.SameHoldings.{SameHoldings}
 use Rattle.steps.specs.Steps.{addStep}
-use Rattle.steps.proofs.laws.RegistrySteps.{add-step}
 use Rattle.world.specs.Numbers.{registeredOf, epochWord}
-use Rattle.world.specs.Regions.{lengthFor}
 use Rattle.world.specs.Sound.{SoundAt}
 use Rattle.world.specs.declared.Numbers.{Numbers}
 
@@ -41,16 +38,7 @@ module _ (d : Numbers) (mem : List ℕ) (sound : SoundAt d mem) where
 
   -- A pair joins the log, and the epoch counts it.
   joined-ids : (token : ℕ) → pairsWith d mem token ≤ d .pairs → SameIds d mem (addStep epochWord 1 (logStep d (newPair d mem token) mem))
-  joined-ids token fits =
-      let pairs : List ℕ = newPair d mem token in
-      let same = log-step-holdings d mem (sound .long-enough) pairs fits in
-      let long : lengthFor d ≤ length (logStep d pairs mem) = omega (arith, same .same-length, sound .long-enough) in
-      let counted = add-step d (logStep d pairs mem) long epochWord 1 (omega arith) (omega arith) in
-      ids-trans d mem (logStep d pairs mem) _ (holdings-ids d mem _ same) (record {
-        same-next = counted .same-word 5 (omega arith) (omega arith);
-        same-count = counted .same-word 12 (omega arith) (omega arith);
-        same-recycled = λ j. ap (λ ws. recycledAt (d .places) ws j) (counted .new-registry);
-      })
+  joined-ids token fits = holdings-ids d mem _ (join-step d mem (sound .long-enough) (newPair d mem token) fits 1 .holdings)
 
 pub ids-steady : (d : Numbers) → Steady d (NoneFreed d)
 ids-steady d = record {
