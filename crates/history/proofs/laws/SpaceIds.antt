@@ -14,21 +14,18 @@ use Rattle.manager_laws.proofs.laws.Ids.{Unspent}
 use Rattle.manager_laws.proofs.laws.SameIds.{only-space, insert-ids}
 use Rattle.manager_laws.proofs.laws.Spent.{SpentAt, Spent, NoneFreed, spent-still, none-refl, none-trans, none-same, take-none, taken-unspent, taken-spent}
 use Rattle.space.specs.Change.{insertOut}
-use Rattle.space.specs.Words.{generationOf}
+use Rattle.space_laws.proofs.laws.CreateWays.{create-by-cases}
 use Rattle.space_laws.proofs.laws.Sound.{create-keeps}
-use Rattle.space_calls.specs.Calls.{takenReply, allocOut, createMade, createTaken, createOut}
+use Rattle.space_calls.specs.Calls.{takenReply, allocOut, createOut}
 use Rattle.steps.specs.Replies.{Left}
 use Rattle.steps.specs.Steps.{spaceOf, newEntry, insertStep, takenId, takeStep}
 use Rattle.steps.specs.declared.Reply.{Reply}
 use Rattle.steps.specs.declared.Taken.{Taken}
 use Rattle.steps.specs.declared.Taken.the-variants.{Id, Exhausted}
-use Rattle.steps.proofs.laws.Entered.{world-by-cases, space-by-cases}
+use Rattle.steps.proofs.laws.Entered.{world-by-cases}
 use Rattle.steps.proofs.laws.OnlySpace.{OnlySpace}
 use Rattle.steps.proofs.laws.TakeStep.{take-step-kept}
-use Rattle.token.specs.Token.{made}
 use Rattle.token.specs.declared.capability.CapabilityToken.{CapabilityToken}
-use Rattle.token.specs.declared.capability.Made.{Made}
-use Rattle.token.specs.declared.capability.Made.the-variants.{Token, Refused}
 use Rattle.world.specs.Numbers.{numbersOf}
 use Rattle.world.specs.Sound.{Sound}
 use Rattle.world.specs.declared.Numbers.{Numbers}
@@ -50,29 +47,28 @@ module _ (mem : List ℕ) where
   unfolding allocOut
   alloc-frees-none = world-by-cases FreesNone _ mem _ (λ bad. none-refl d mem) (λ sound. take-none d mem sound)
 
-  pub alloc-new : allocOut mem .reply .answer ≡ Done → Unspent mem (allocOut mem .reply .value)
+  -- Given 0, it took an id.
+  abbrev Took : Left Reply → Type 0
+  Took out = out .reply .answer ≡ Done → Sound mem × ((takenId d mem ≡ Id (out .reply .value)) × (out .memory ≡ takeStep d mem))
+
+  alloc-took : Took (allocOut mem)
   unfolding allocOut
-  alloc-new =
-      world-by-cases (λ (out : Left Reply). out .reply .answer ≡ Done → Unspent mem (out .reply .value)) _ mem _
-      (λ bad e. absurd (omega (arith, ap numberOf e)))
-      (λ sound. go sound (takenId d mem) refl)
+  alloc-took =
+      world-by-cases Took _ mem _ (λ bad e. absurd (omega (arith, ap numberOf e))) (λ sound. go sound (takenId d mem) refl)
     where
-      go : Sound mem → (t : Taken) → takenId d mem ≡ t → takenReply t .answer ≡ Done → Unspent mem (takenReply t .value)
-      go sound (Id id) is e = λ x spent. taken-unspent d mem sound id x is spent
+      go : Sound mem → (t : Taken) → takenId d mem ≡ t → Took (record { reply = takenReply t; memory = takeStep d mem })
+      go sound (Id id) is e = (sound, (is, refl))
       go sound Exhausted is e = absurd (omega (arith, ap numberOf e))
 
+  pub alloc-new : allocOut mem .reply .answer ≡ Done → Unspent mem (allocOut mem .reply .value)
+  alloc-new e = let (sound, (is, left)) = alloc-took e in λ x spent. taken-unspent d mem sound _ x is spent
+
   pub alloc-issued : allocOut mem .reply .answer ≡ Done → Spent (allocOut mem .memory) (allocOut mem .reply .value)
-  unfolding allocOut
-  alloc-issued =
-      world-by-cases (λ (out : Left Reply). out .reply .answer ≡ Done → Spent (out .memory) (out .reply .value)) _ mem _
-      (λ bad e. absurd (omega (arith, ap numberOf e)))
-      (λ sound. go sound (takenId d mem) refl)
-    where
-      go : Sound mem → (t : Taken) → takenId d mem ≡ t → takenReply t .answer ≡ Done → Spent (takeStep d mem) (takenReply t .value)
-      go sound (Id id) is e =
-          subst (λ (d : Numbers). SpentAt d (takeStep (numbersOf mem) mem) id) (sym (take-step-kept d mem sound .numbers))
-          (taken-spent d mem sound id is)
-      go sound Exhausted is e = absurd (omega (arith, ap numberOf e))
+  alloc-issued e =
+      let (sound, (is, left)) = alloc-took e in
+      rw left
+      (subst (λ (d : Numbers). SpentAt d (takeStep (numbersOf mem) mem) (allocOut mem .reply .value))
+      (sym (take-step-kept d mem sound .numbers)) (taken-spent d mem sound _ is))
 
   -- ---- the space-made create
 
@@ -87,18 +83,10 @@ module _ (mem : List ℕ) where
         none-same d after _ (insert-ids d after (take-step-kept d mem sound .sound) s valid (newEntry (t .0) object rights) fits)
 
     pub space-create-frees-none : rights < 2 ^ 32 → NoneFreed (numbersOf mem) mem (createOut mem s rights object .memory)
-    unfolding createOut
     space-create-frees-none fits =
-        space-by-cases FreesNone _ mem _ (λ bad. none-refl d mem) s (λ sound far. none-refl d mem)
-        (λ sound valid. none-trans d mem after _ (take-none d mem sound) (taken sound valid (takenId d mem)))
-      where
-        tokened : Sound mem → s < d .spaces → (id : ℕ) (m : Made) → NoneFreed d after (createMade d s rights object id after m .memory)
-        tokened sound valid id (Token t) = inserted-none fits sound valid t
-        tokened sound valid id (Refused a) = none-refl d after
-
-        taken : Sound mem → s < d .spaces → (t : Taken) → NoneFreed d after (createTaken d s rights object after t .memory)
-        taken sound valid (Id id) = tokened sound valid id (made id (generationOf (spaceOf d s after)) 0 0)
-        taken sound valid Exhausted = none-refl d after
+        create-by-cases mem s rights object FreesNone (λ bad. none-refl d mem) (λ sound far. none-refl d mem)
+        (λ sound valid. take-none d mem sound)
+        (λ sound valid id is t. none-trans d mem after _ (take-none d mem sound) (inserted-none fits sound valid t))
 
     -- An insert given 0 was accepted, so the value is the id.
     accepted :
@@ -110,41 +98,22 @@ module _ (mem : List ℕ) where
     IssuesNew out = out .reply .answer ≡ Done → Unspent mem (out .reply .value)
 
     pub space-create-new : createOut mem s rights object .reply .answer ≡ Done → Unspent mem (createOut mem s rights object .reply .value)
-    unfolding createOut
     space-create-new =
-        space-by-cases IssuesNew _ mem _ (λ bad e. absurd (omega (arith, ap numberOf e))) s
-        (λ sound far e. absurd (omega (arith, ap numberOf e)))
-        (λ sound valid. taken sound (takenId d mem) refl)
-      where
-        tokened : Sound mem → (id : ℕ) → takenId d mem ≡ Id id → (m : Made) → IssuesNew (createMade d s rights object id after m)
-        tokened sound id is (Token t) e = λ x spent.
-            subst (λ b. pick b id 0 ≢ x) (sym (accepted t e)) (taken-unspent d mem sound id x is spent)
-        tokened sound id is (Refused a) e = absurd (omega (arith, ap numberOf e))
-
-        taken : Sound mem → (t : Taken) → takenId d mem ≡ t → IssuesNew (createTaken d s rights object after t)
-        taken sound (Id id) is = tokened sound id is (made id (generationOf (spaceOf d s after)) 0 0)
-        taken sound Exhausted is = λ e. absurd (omega (arith, ap numberOf e))
+        create-by-cases mem s rights object IssuesNew (λ bad e. absurd (omega (arith, ap numberOf e)))
+        (λ sound far e. absurd (omega (arith, ap numberOf e))) (λ sound valid e. absurd (omega (arith, ap numberOf e)))
+        (λ sound valid id is t e x spent.
+        subst (λ b. pick b id 0 ≢ x) (sym (accepted t e)) (taken-unspent d mem sound id x is spent))
 
     abbrev Issues : Left Reply → Type 0
     Issues out = out .reply .answer ≡ Done → SpentAt (numbersOf mem) (out .memory) (out .reply .value)
 
     issues : rights < 2 ^ 32 → Issues (createOut mem s rights object)
-    unfolding createOut
     issues fits =
-        space-by-cases Issues _ mem _ (λ bad e. absurd (omega (arith, ap numberOf e))) s
-        (λ sound far e. absurd (omega (arith, ap numberOf e)))
-        (λ sound valid. taken sound valid (takenId d mem) refl)
-      where
-        tokened :
-            Sound mem → s < d .spaces → (id : ℕ) → takenId d mem ≡ Id id → (m : Made) → Issues (createMade d s rights object id after m)
-        tokened sound valid id is (Token t) e =
-            subst (λ b. SpentAt d (insertStep d s (newEntry (t .0) object rights) after) (pick b id 0)) (sym (accepted t e))
-            (spent-still d after _ id (inserted-none fits sound valid t) (taken-spent d mem sound id is))
-        tokened sound valid id is (Refused a) e = absurd (omega (arith, ap numberOf e))
-
-        taken : Sound mem → s < d .spaces → (t : Taken) → takenId d mem ≡ t → Issues (createTaken d s rights object after t)
-        taken sound valid (Id id) is = tokened sound valid id is (made id (generationOf (spaceOf d s after)) 0 0)
-        taken sound valid Exhausted is = λ e. absurd (omega (arith, ap numberOf e))
+        create-by-cases mem s rights object Issues (λ bad e. absurd (omega (arith, ap numberOf e)))
+        (λ sound far e. absurd (omega (arith, ap numberOf e))) (λ sound valid e. absurd (omega (arith, ap numberOf e)))
+        (λ sound valid id is t e.
+        subst (λ b. SpentAt d (insertStep d s (newEntry (t .0) object rights) after) (pick b id 0)) (sym (accepted t e))
+        (spent-still d after _ id (inserted-none fits sound valid t) (taken-spent d mem sound id is)))
 
     pub space-create-issued :
         Sound mem → rights < 2 ^ 32 → createOut mem s rights object .reply .answer ≡ Done

@@ -5,13 +5,12 @@ use Rattle.answers.specs.declared.Answer.{Answer}
 use Rattle.history.specs.Counts.{given0}
 use Rattle.steps.proofs.laws.Cases.{unless-below}
 use Rattle.space.specs.Words.{generationOf}
-use Rattle.space_calls.specs.Calls.{lookupOut, lookupEntryOut, checkRightsOut, insertCallOut, removeOut, incrementOut, clearOut, revokeAllOut, copyOut, allocOut, createMade, createTaken, createOut, revokeMade, revokeOut}
+use Rattle.space_calls.specs.Calls.{lookupOut, lookupEntryOut, checkRightsOut, insertCallOut, removeOut, incrementOut, clearOut, revokeAllOut, copyOut, allocOut, createOut, revokeMade, revokeOut}
+use Rattle.space_laws.proofs.laws.CreateWays.{create-by-cases}
 use Rattle.steps.specs.Enter.{onSpace}
 use Rattle.steps.specs.Replies.{Left, refuse}
-use Rattle.steps.specs.Steps.{spaceOf, newEntry, takenId, takeStep}
+use Rattle.steps.specs.Steps.{spaceOf, newEntry}
 use Rattle.steps.specs.declared.Reply.{Reply}
-use Rattle.steps.specs.declared.Taken.{Taken}
-use Rattle.steps.specs.declared.Taken.the-variants.{Id, Exhausted}
 use Rattle.steps.proofs.laws.Entered.{world-by-cases, space-by-cases}
 use Rattle.steps.proofs.laws.SpaceSteps.{clear-step-kept}
 use Rattle.steps.proofs.laws.TakeStep.{take-step-kept}
@@ -105,24 +104,13 @@ module _ (mem : List ℕ) (sound : Sound mem) (s : ℕ) (inside : s < numbersOf 
       paid t _ (λ there. insert-pays d s inside mem sound t there (newEntry token object rights) fits)
 
   pub create-call-pays : (t rights object : ℕ) → rights < 2 ^ 32 → Paid t (createOut mem t rights object)
-  unfolding createOut
-  create-call-pays t rights object fits = paid t _ (λ there. taken there (takenId d mem))
-    where
-      after : List ℕ
-      after = takeStep d mem
-
-      took : Quiet (numbersOf mem) s mem after
-      took = take-quiet d s inside mem sound
-
-      tokened : t < d .spaces → (id : ℕ) (m : Made) → Paid t (createMade d t rights object id after m)
-      tokened there id (Token k) =
-          quiet-first d s mem after _ _ _ took
-          (insert-pays d s inside after (take-step-kept d mem sound .sound) t there (newEntry (k .0) object rights) fits)
-      tokened there id (Refused a) = quiet-pays d s mem after t _ took
-
-      taken : t < d .spaces → (k : Taken) → Paid t (createTaken d t rights object after k)
-      taken there (Id id) = tokened there id (made id (generationOf (spaceOf d t after)) 0 0)
-      taken there Exhausted = quiet-pays d s mem after t _ took
+  create-call-pays t rights object fits =
+      let took = take-quiet d s inside mem sound in
+      create-by-cases mem t rights object (Paid t) (λ bad. unpaid t _) (λ sound far. unpaid t _)
+      (λ sound there. quiet-pays d s mem _ t _ took)
+      (λ sound there id is k.
+      quiet-first d s mem _ _ _ _ took
+      (insert-pays d s inside _ (take-step-kept d mem sound .sound) t there (newEntry (k .0) object rights) fits))
 
   -- A copy's value is what it accepted.
   pub copy-call-pays :
