@@ -7,7 +7,7 @@ use Rattle.world.specs.SoundLaws.{sound-exactly}
 use Rattle.history.specs.Perform.{perform}
 use Rattle.history.specs.Promises.{NeverBadWorld, AlwaysSound, LengthNeverChanged, PastNeverChanged, ShortWalks, VisitsAnswered, FewMoves, OneResult}
 use Rattle.history.proofs.laws.Answers.{never-26}
-use Rattle.history.proofs.laws.Kept.{sound-after, length-after, stays-after}
+use Rattle.history.proofs.laws.Kept.{lasts-after, stays-after}
 use Rattle.history.proofs.laws.Moves.{opened-potential, history-pays}
 use Rattle.history.proofs.laws.Opening.{opening-opens}
 use Rattle.history.proofs.laws.Paid.{potentialIn}
@@ -16,15 +16,15 @@ use Rattle.history.proofs.laws.VisitsAnswered as visits
 
 pub never-bad-world : NeverBadWorld
 never-bad-world d quotas mem done history call closed =
-    never-26 _ (sound-after history _ (opening-opens d quotas mem done .sound)) call closed
+    never-26 _ (lasts-after history _ (opening-opens d quotas mem done .sound) .sound) call closed
 
 pub always-sound : AlwaysSound
-always-sound d quotas mem done history = sound-exactly _ .1 (sound-after history _ (opening-opens d quotas mem done .sound))
+always-sound d quotas mem done history = sound-exactly _ .1 (lasts-after history _ (opening-opens d quotas mem done .sound) .sound)
 
 pub length-never-changed : LengthNeverChanged
 length-never-changed d quotas mem done history =
     let begun = opening-opens d quotas mem done in
-    length-after history _ (begun .sound) ∙ begun .stays .same-length
+    lasts-after history _ (begun .sound) .same-length ∙ begun .stays .same-length
 
 pub past-never-changed : PastNeverChanged
 past-never-changed d quotas mem done history closed =
@@ -32,10 +32,10 @@ past-never-changed d quotas mem done history closed =
     stays-after d mem history _ (begun .sound) (begun .stays) closed
 
 pub short-walks : ShortWalks
-short-walks d quotas mem done history = walk-is-short _ _ (sound-after history _ (opening-opens d quotas mem done .sound))
+short-walks d quotas mem done history = walk-is-short _ _ (lasts-after history _ (opening-opens d quotas mem done .sound) .sound)
 
 pub visits-answered : VisitsAnswered
-visits-answered d quotas mem done history = visits.visits-answered _ (sound-after history _ (opening-opens d quotas mem done .sound))
+visits-answered d quotas mem done history = visits.visits-answered _ (lasts-after history _ (opening-opens d quotas mem done .sound) .sound)
 
 pub few-moves : FewMoves
 few-moves d quotas mem done history closed s inside =

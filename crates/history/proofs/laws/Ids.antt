@@ -20,7 +20,7 @@ use Rattle.history.specs.Call.{space-insert, space-copy, space-create, c
 use Rattle.history.specs.Call.{space-lookup, space-lookup-entry, space-check-rights, space-remove, space-increment-generation, space-clear, space-revoke-all, space-revoke, alloc-cap-id, delete, check, revoke, revoke-capability, revoke-held, revoke-batch, notify-process, drain-notifications, cleanup-process-notifications}
 use Rattle.history.specs.Perform.{accept, change, perform, after}
 use Rattle.history.specs.Promises.{reopens, reopened}
-use Rattle.history.proofs.laws.Kept.{accept-kept, change-kept, perform-keeps, not-reopened}
+use Rattle.history.proofs.laws.Kept.{accept-kept, change-kept, perform-lasts, not-reopened}
 use Rattle.history.proofs.laws.Opening.{opening-refused}
 use Rattle.history.proofs.laws.RevocationIds.{ids-steady}
 use Rattle.history.proofs.laws.SpaceIds.{space-frees-none, alloc-frees-none, space-create-frees-none}
@@ -100,7 +100,7 @@ unfolding after NeverGivenBack
 history-spent [] mem sound closed x kept spent = spent
 history-spent (call ∷ later) mem sound closed x (first, rest) spent =
     let (refused, still-closed) = not-reopened call later mem closed in
-    history-spent later (perform call mem .memory) (perform-keeps call mem sound) still-closed x rest
+    history-spent later (perform call mem .memory) (perform-lasts call mem sound .sound) still-closed x rest
     (call-spent mem sound x spent call refused first)
 
 -- What is issued after such a history is another id.

@@ -4,7 +4,6 @@ use mathlib.Core.Bool.{Bool, true, false, true≢false}
 use mathlib.Core.List.{List, [], _∷_}
 use mathlib.Core.Path.{_≡_, refl, sym, subst, _∙_}
 use Prim.Native.Nat.{ℕ}
-use lib.ListN.{length}
 use Rattle.base.specs.Choose.{pick}
 use Rattle.steps.proofs.laws.Kept.{Kept, kept-refl, kept-sound}
 use Rattle.space_laws.proofs.laws.Sound as space
@@ -18,7 +17,7 @@ use Rattle.history.specs.Call.{space-insert, space-copy, space-create, c
 use Rattle.history.specs.Call.{space-lookup, space-lookup-entry, space-check-rights, space-remove, space-increment-generation, space-clear, space-revoke-all, space-revoke, alloc-cap-id, delete, check, revoke, revoke-capability, revoke-held, revoke-batch, notify-process, drain-notifications, cleanup-process-notifications}
 use Rattle.history.specs.Perform.{accept, change, perform, after}
 use Rattle.history.specs.Promises.{Stays, reopens, reopened}
-use Rattle.history.proofs.laws.Opening.{opening-refused, opening-keeps, opening-length}
+use Rattle.history.proofs.laws.Opening.{Lasts, lasts-refl, opening-refused, opening-lasts}
 
 module _ (mem : List ℕ) (sound : Sound mem) where
   pub accept-kept : (call : Accepting) → Kept (numbersOf mem) mem (accept call mem .memory)
@@ -59,34 +58,25 @@ module _ (mem : List ℕ) (sound : Sound mem) where
   perform-kept (accepts call) refused = accept-kept call
   perform-kept (changes call) refused = change-kept call
 
--- ---- sound
+-- ---- sound, and of one length
 
-pub perform-keeps : (call : Call) (mem : List ℕ) → Sound mem → Sound (perform call mem .memory)
+kept-lasts : (mem now : List ℕ) → Kept (numbersOf mem) mem now → Lasts mem now
+kept-lasts mem now kept = record { sound = kept-sound mem now kept; same-length = kept .same-length }
+
+pub perform-lasts : (call : Call) (mem : List ℕ) → Sound mem → Lasts mem (perform call mem .memory)
 unfolding perform
-perform-keeps (open-world d quotas) mem sound = opening-keeps d quotas mem sound
-perform-keeps (reads call) mem sound = sound
-perform-keeps (accepts call) mem sound = kept-sound mem _ (accept-kept mem sound call)
-perform-keeps (changes call) mem sound = kept-sound mem _ (change-kept mem sound call)
+perform-lasts (open-world d quotas) mem sound = opening-lasts d quotas mem sound
+perform-lasts (reads call) mem sound = lasts-refl mem sound
+perform-lasts (accepts call) mem sound = kept-lasts mem _ (accept-kept mem sound call)
+perform-lasts (changes call) mem sound = kept-lasts mem _ (change-kept mem sound call)
 
-pub sound-after : (history : List Call) (mem : List ℕ) → Sound mem → Sound (after history mem)
+pub lasts-after : (history : List Call) (mem : List ℕ) → Sound mem → Lasts mem (after history mem)
 unfolding after
-sound-after [] mem sound = sound
-sound-after (call ∷ later) mem sound = sound-after later (perform call mem .memory) (perform-keeps call mem sound)
-
--- ---- of one length
-
-perform-length : (call : Call) (mem : List ℕ) → Sound mem → length (perform call mem .memory) ≡ length mem
-unfolding perform
-perform-length (open-world d quotas) mem sound = opening-length d quotas mem
-perform-length (reads call) mem sound = refl
-perform-length (accepts call) mem sound = accept-kept mem sound call .same-length
-perform-length (changes call) mem sound = change-kept mem sound call .same-length
-
-pub length-after : (history : List Call) (mem : List ℕ) → Sound mem → length (after history mem) ≡ length mem
-unfolding after
-length-after [] mem sound = refl
-length-after (call ∷ later) mem sound =
-    length-after later (perform call mem .memory) (perform-keeps call mem sound) ∙ perform-length call mem sound
+lasts-after [] mem sound = lasts-refl mem sound
+lasts-after (call ∷ later) mem sound =
+    let first = perform-lasts call mem sound in
+    let rest = lasts-after later (perform call mem .memory) (first .sound) in
+    record { sound = rest .sound; same-length = rest .same-length ∙ first .same-length }
 
 -- ---- what a history without an opening that is given 0 leaves
 
@@ -118,4 +108,4 @@ stays-after d before (call ∷ later) mem sound stays closed =
     let (first, rest) = not-reopened call later mem closed in
     let next : List ℕ = perform call mem .memory in
     let kept : Kept d mem next = subst (λ d. Kept d mem next) (stays .numbers) (perform-kept mem sound call first) in
-    stays-after d before later next (perform-keeps call mem sound) (stays-kept d before mem next stays kept) rest
+    stays-after d before later next (perform-lasts call mem sound .sound) (stays-kept d before mem next stays kept) rest

@@ -31,7 +31,7 @@ use Rattle.history.specs.Perform.{accept, change, perform, after}
 use Rattle.history.specs.Promises.{reopens, reopened}
 use Rattle.history.proofs.laws.CreateMoves.{create-pays}
 use Rattle.history.proofs.laws.DelegateMoves.{delegate-pays}
-use Rattle.history.proofs.laws.Kept.{perform-kept, perform-keeps, not-reopened}
+use Rattle.history.proofs.laws.Kept.{perform-kept, perform-lasts, not-reopened}
 use Rattle.history.proofs.laws.Opening.{opening-refused}
 use Rattle.history.proofs.laws.Paid.{potentialIn, Pays, Quiet, quiet-refl, quiet-trans, changed-quiet, lookup-quiet}
 use Rattle.history.proofs.laws.RevocationMoves.{quiet-steady}
@@ -138,4 +138,4 @@ module _ (numbers : Numbers) (s : ℕ) (inside : s < numbers .spaces) where
       let here : Pays numbers s mem next (movedIn call s mem) (acceptedIn call s mem) =
       subst (λ d. Pays d s mem next (movedIn call s mem) (acceptedIn call s mem)) are (perform-pays mem sound s there call first) in
       let kept = perform-kept mem sound call first in
-      omega (arith, here .paid, history-pays later next (perform-keeps call mem sound) (kept .numbers ∙ are) rest)
+      omega (arith, here .paid, history-pays later next (perform-lasts call mem sound .sound) (kept .numbers ∙ are) rest)

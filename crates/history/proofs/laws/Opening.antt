@@ -19,6 +19,14 @@ use Rattle.world.specs.Sound.{Sound}
 use Rattle.world.specs.declared.Numbers.{Numbers}
 use Rattle.history.specs.Promises.{Stays}
 
+-- Sound, and of the length that it had.
+pub record Lasts (mem now : List ℕ) : Type 0 where
+  pub sound : Sound now
+  pub same-length : length now ≡ length mem
+
+pub lasts-refl : (mem : List ℕ) → Sound mem → Lasts mem mem
+lasts-refl mem sound = record { sound = sound; same-length = refl }
+
 module _ (d : Numbers) (quotas mem : List ℕ) where
   -- What is known of a memory that was opened.
   pub record Opened (now : List ℕ) : Type 0 where
@@ -47,12 +55,11 @@ module _ (d : Numbers) (quotas mem : List ℕ) where
   opening-refused refused =
       open-unchanged d quotas mem (λ done. eqb-false (numberOf (opening d quotas mem .answer)) 0 refused (ap numberOf done))
 
-  pub opening-keeps : Sound mem → Sound (opening d quotas mem .memory)
-  opening-keeps sound =
-      opening-by-cases d quotas mem (λ (out : Answered). Sound (out .memory)) (λ bad. sound) (λ good short. sound)
-      (λ good long. opened-sound d quotas mem long (good-test d quotas good))
-
-  pub opening-length : length (opening d quotas mem .memory) ≡ length mem
-  opening-length =
-      opening-by-cases d quotas mem (λ (out : Answered). length (out .memory) ≡ length mem) (λ bad. refl) (λ good short. refl)
-      (λ good long. opened-length d quotas mem long)
+  pub opening-lasts : Sound mem → Lasts mem (opening d quotas mem .memory)
+  opening-lasts sound =
+      opening-by-cases d quotas mem (λ (out : Answered). Lasts mem (out .memory)) (λ bad. lasts-refl mem sound)
+      (λ good short. lasts-refl mem sound)
+      (λ good long. record {
+        sound = opened-sound d quotas mem long (good-test d quotas good);
+        same-length = opened-length d quotas mem long;
+      })
