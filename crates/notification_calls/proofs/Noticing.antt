@@ -1,4 +1,4 @@
--- The notices of the queue at place q, by whether there is such a place.
+-- The notices of the queue at place q, by whether there is such a place; and the calls on the queue of a pid.
 use mathlib.Core.Bool.{true, false}
 use mathlib.Core.List.{List, [], _∷_}
 use mathlib.Core.Logic.{by-cases}
@@ -11,11 +11,14 @@ use lib.Dec.{ltb}
 use lib.ListN.{length}
 use Rattle.revocation.specs.NoticesLaws.{length-notices}
 use Rattle.revocation_steps.specs.Revocation.{queueFor, freeStep}
+use Rattle.steps.proofs.WorldCalls.{world-calls}
 use Rattle.steps.proofs.laws.Ready.{queues-ready-at}
+use Rattle.steps.specs.Replies.{WithArea, done}
+use Rattle.steps.specs.declared.Reply.{Reply}
 use Rattle.world.specs.Regions.{queue, view}
 use Rattle.world.specs.Sound.{SoundAt, lengths}
 use Rattle.world.specs.declared.Numbers.{Numbers}
-use Rattle.notification_calls.specs.Calls.{noticesFor, countFor, without}
+use Rattle.notification_calls.specs.Calls.{noticesFor, countFor, peeked, without}
 
 no-words : (xs : List ℕ) → length xs ≡ 0 → xs ≡ []
 no-words [] none = refl
@@ -53,15 +56,27 @@ module _ (d : Numbers) (mem : List ℕ) (q : ℕ) where
       (λ l. rw (lt-ltb q (d .queues) l) (queues-ready-at d mem sound .lengths q l))
       (λ past. omega (arith, count-past (omega arith)))
 
--- The code found place q for the pid, and so many notices there: an area of n words is too short for them, or long enough.
-module _ (d : Numbers) (mem : List ℕ) (pid q : ℕ) (is-queue : q ≡ queueFor d mem pid) (count : ℕ) (counted : count ≡ countFor d mem q)
-    (n : ℕ)
-  where
+-- ---- the code found place q for the pid
+
+module _ (d : Numbers) (mem : List ℕ) (pid q : ℕ) (is-queue : q ≡ queueFor d mem pid) where
+  pub peeks : (area : List ℕ) (out : WithArea) → out ≡ peeked d mem q area → out ≡ peeked d mem (queueFor d mem pid) area
+  peeks area out is = is ∙ ap (λ q. peeked d mem q area) is-queue
+
+  pub removes : (after : List ℕ) → after ≡ without d mem q → after ≡ without d mem (queueFor d mem pid)
+  removes after is = is ∙ ap (without d mem) is-queue
+
+  -- And so many notices there: they are answered, and an area of n words is too short for them, or long enough.
+  module _ (count : ℕ) (counted : count ≡ countFor d mem q) where
+    pub counts : (out : Reply) → out ≡ done count → out ≡ done (countFor d mem (queueFor d mem pid))
+    counts out is = is ∙ ap done (counted ∙ ap (countFor d mem) is-queue)
+
     words-found : length (noticesFor d mem (queueFor d mem pid)) ≡ 3 * count
     words-found = rw (← is-queue, counted) (words-for d mem q)
 
-    pub area-short : n < 3 * count → ltb n (length (noticesFor d mem (queueFor d mem pid))) ≡ true
-    area-short l = ap (ltb n) words-found ∙ lt-ltb n (3 * count) l
+    pub area-short : (n : ℕ) → n < 3 * count → ltb n (length (noticesFor d mem (queueFor d mem pid))) ≡ true
+    area-short n l = ap (ltb n) words-found ∙ lt-ltb n (3 * count) l
 
-    pub area-long : 3 * count ≤ n → ltb n (length (noticesFor d mem (queueFor d mem pid))) ≡ false
-    area-long l = ap (ltb n) words-found ∙ le-ltb n (3 * count) l
+    pub area-long : (n : ℕ) → 3 * count ≤ n → ltb n (length (noticesFor d mem (queueFor d mem pid))) ≡ false
+    area-long n l = ap (ltb n) words-found ∙ le-ltb n (3 * count) l
+
+pub ruleset noticing = (world-calls, peeks, removes, counts, area-short, area-long)
