@@ -5,7 +5,6 @@ use mathlib.Core.Path.{_≡_, refl, ap, ap₂, _∙_}
 use Prim.Native.Nat.{ℕ, _<_}
 use native.Mathlib.Omega.{arith}
 use lib.Dec.{eqb, ltb}
-use lib.ListN.{getD}
 use Rattle.answers.specs.declared.Answer.the-variants.{LogFull, PidTableFull}
 use Rattle.base.specs.Choose.{pick, when}
 use Rattle.registry.specs.Words.{revoked}
@@ -17,14 +16,14 @@ use Rattle.space.proofs.laws.Kept.{lookup-keeps}
 use Rattle.steps.specs.Replies.{Left, done, refusal}
 use Rattle.steps.specs.Steps.{lookupStep, placeIn}
 use Rattle.steps.specs.declared.Reply.{Reply}
+use Rattle.steps.proofs.laws.OnlySpace.{OnlySpace, lookup-step}
 use Rattle.steps.proofs.laws.Ready.{space-of}
 use Rattle.steps.proofs.laws.Stepped.{space-change}
 use Rattle.token.specs.Token.{idOf}
-use Rattle.world.specs.Layout.{Valid, same}
 use Rattle.world.specs.Numbers.{registeredOf, loggedOf}
-use Rattle.world.specs.Regions.{Region, space, registry, log, queue, view}
+use Rattle.world.specs.Regions.{space, registry, queue, view}
 use Rattle.world.specs.Sound.{states, SoundAt}
-use Rattle.world.specs.Views.{Change, view-other, head-kept}
+use Rattle.world.specs.Views.{view-other}
 use Rattle.world.specs.declared.Numbers.{Numbers}
 use Rattle.revocation_calls.specs.Revoking.{revoking, loggingToken, revokingToken}
 use Rattle.revocation_calls.proofs.laws.RevokingWays.{pairsAfter, pairsWith}
@@ -74,31 +73,24 @@ module _ (d : Numbers) (mem : List ℕ) (sound : SoundAt d mem) (s : ℕ) (there
   abbrev after : List ℕ
   after = lookupStep d s key mem
 
-  in-space : Change d (space s) (λ sp. counted sp key) mem
-  in-space = space-change d s (λ sp. counted sp key) mem sound there (lookup-keeps (d .most) _ (space-of d mem sound s there) key)
-
-  same-view : (r : Region) → Valid d r → same (space s) r ≡ false → view d r after ≡ view d r mem
-  unfolding lookupStep
-  same-view r valid other = view-other d (space s) (λ sp. counted sp key) mem in-space r valid other
-
-  same-word : (i : ℕ) → i < 16 → getD after i 0 ≡ getD mem i 0
-  unfolding lookupStep
-  same-word i l = head-kept d (space s) (λ sp. counted sp key) mem in-space refl i l
+  only : OnlySpace d s mem after
+  only = lookup-step d mem sound s there key .only
 
   pub same-queues : (q : ℕ) → q < d .queues → view d (queue q) (lookupStep d s key mem) ≡ view d (queue q) mem
-  same-queues q l = same-view (queue q) l refl
+  same-queues = only .same-queue
 
   pub same-registered : registeredOf (lookupStep d s key mem) ≡ registeredOf mem
-  same-registered = same-word 11 (omega arith)
+  same-registered = only .same-head 11 (omega arith)
 
   same-logged : loggedOf after ≡ loggedOf mem
-  same-logged = same-word 13 (omega arith)
+  same-logged = only .same-head 13 (omega arith)
 
   pub same-registry : view d registry (lookupStep d s key mem) ≡ view d registry mem
-  same-registry = same-view registry tt refl
-
-  same-log : view d log after ≡ view d log mem
-  same-log = same-view log tt refl
+  unfolding lookupStep
+  same-registry =
+      let counts : List ℕ → List ℕ = λ sp. counted sp key in
+      let change = space-change d s counts mem sound there (lookup-keeps (d .most) _ (space-of d mem sound s there) key) in
+      view-other d (space s) counts mem change registry tt refl
 
   same-revoking : (r time : ℕ) (listed : List ℕ) → revoking d r time listed after .reply ≡ revoking d r time listed mem .reply
   same-revoking r time listed =
@@ -107,14 +99,14 @@ module _ (d : Numbers) (mem : List ℕ) (sound : SoundAt d mem) (s : ℕ) (there
         same-registered,
         same-logged,
         same-registry,
-        same-log,
+        only .same-log,
         same-free-queues d mem after same-queues,
         same-new-queues d mem after same-queues listed,
       ) refl)
 
   same-listing : (token : ℕ) → loggingToken d token after .reply ≡ loggingToken d token mem .reply
   same-listing token =
-      rw (listing-replies d after token, listing-replies d mem token) (rw (same-logged, same-log) refl)
+      rw (listing-replies d after token, listing-replies d mem token) (rw (same-logged, only .same-log) refl)
 
   pub counted-answers :
       (token time : ℕ) (listed : List ℕ)
