@@ -6,6 +6,7 @@ use native.Mathlib.Omega.{arith}
 use borrow.Author.Needs.{needs}
 use borrow.Author.Tests.{lt-ltb, le-ltb}
 use lib.Dec.{ltb}
+use lib.ListN.{length}
 use Rattle.base.specs.Choose.{pick}
 use Rattle.steps.proofs.laws.Ready.{ready-at}
 use Rattle.steps.specs.Replies.{Left}
@@ -13,6 +14,7 @@ use Rattle.steps.specs.Steps.{placeIn}
 use Rattle.steps.specs.declared.Reply.{Reply}
 use Rattle.token.specs.Token.{idOf}
 use Rattle.world.specs.Numbers.{registeredOf}
+use Rattle.world.specs.Sound.{SoundAt}
 use Rattle.world.specs.declared.Numbers.{Numbers}
 use Rattle.revocation_calls.specs.Revoking.{revoking, loggingToken, revokingToken}
 use Rattle.revocation_calls.proofs.revoking.revoke_token.Statement.{statement}
@@ -37,28 +39,13 @@ module _ (d : Numbers) (mem : List ℕ) (token time : ℕ) (listed : List ℕ) (
         registeredOf mem ≤ r → (out : Left Reply) → out ≡ loggingToken d token mem → out ≡ revokingToken d token time listed mem
     unregistered outside out is = is ∙ rw (le-ltb r (registeredOf mem) outside) at by-place
 
-place-of-requires : tie.Need-place-of-requires
-place-of-requires c κs = ready-at _ _ (c .before .before .before .before .pre)
+in-head : (d : Numbers) (mem : List ℕ) → SoundAt d mem → (i : ℕ) → i < 16 → i < length mem
+in-head d mem sound i l = omega (arith, ready-at d mem sound .head)
 
-slice-read-if1 : tie.Need-slice-read-if1
-slice-read-if1 c = omega (arith, ready-at _ _ (c .before .before .before .before .before .before .pre) .head)
-
-returns : tie.Need-returns
-returns c =
-    let call = c .before .before in
-    let tested = call .before .before in
-    let place = tested .before .before in
-    registered _ _ _ _ _ _ _ (place .before .id .ensures) (place .place-of .ensures .0) (tested .if1 .taken) _ (call .revoke-at .ensures)
-
-returns-2 : tie.Need-returns-2
-returns-2 c =
-    let call = c .before .before in
-    let tested = call .before .before in
-    let place = tested .before .before in
-    unregistered _ _ _ _ _ _ _ (place .before .id .ensures) (place .place-of .ensures .0) (tested .if1 .left) _ (call .log-token .ensures)
+ruleset laws = (needs, ready-at, in-head, registered, unregistered)
 
 pub revoke-token-spec : {M : Type 1} → statement M
 revoke-token-spec =
     tie.close
-    (tie.spec (λ c κs. search needs) place-of-requires slice-read-if1 (λ c κs. search needs) (λ c. search needs) returns
-    (λ c κs. search needs) (λ c. search needs) returns-2)
+    (tie.spec (λ c κs. search laws) (λ c κs. search laws) (λ c. search laws) (λ c κs. search laws) (λ c. search laws) (λ c. search laws)
+    (λ c κs. search laws) (λ c. search laws) (λ c. search laws))
