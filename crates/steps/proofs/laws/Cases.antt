@@ -52,9 +52,12 @@ stated false a b = b
 
 -- ---- an answer and its case
 
+abbrev pub answerOf : Left Reply → Answer
+answerOf out = out .reply .answer
+
 -- The answer is a exactly in the case A.
 abbrev pub Exactly : Answer → Type 0 → Left Reply → Type 0
-Exactly a A out = (out .reply .answer ≡ a) ↔ A
+Exactly a A out = (answerOf out ≡ a) ↔ A
 
 -- The answer is given and its case holds; or it is another, and its case does not.
 pub given : {a b : Answer} {A : Type 0} → a ≡ b → A → (a ≡ b) ↔ A

@@ -46,3 +46,11 @@ take-by-cases d mem P again new none =
     by-cases (decLt (nextOf mem) (2 ^ 48))
     (λ more. let (steps, takes) = takes-next d mem (omega arith) more in rw (← steps, ← takes) (new (omega arith) more))
     (λ over. let (steps, takes) = takes-none d mem (omega arith) (omega arith) in rw (← steps, ← takes) none))
+
+-- Where none is left, nothing is taken.
+pub none-taken : (d : Numbers) (mem : List ℕ) → takenId d mem ≡ Exhausted → takeStep d mem ≡ mem
+none-taken d mem =
+    take-by-cases d mem (λ t after. t ≡ Exhausted → after ≡ mem)
+    (λ some e. let z : _≡_ {A = ℕ} 0 1 = cc in absurd (omega arith))
+    (λ none more e. let z : _≡_ {A = ℕ} 0 1 = cc in absurd (omega arith))
+    (λ e. refl)
