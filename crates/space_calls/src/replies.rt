@@ -1,6 +1,5 @@
 // The answers of the calls, from what the steps found.
 ghost use mathlib.Core.Path.{_≡_};
-ghost use Rattle.steps.specs.Replies.{replied};
 ghost use Rattle.space_calls.specs.Replies.{rightsReply, objectReply, goneReply, heldReply, noEntry, wholeEntry, entryReply, nthReply, noFacts};
 use super::EntryReply;
 use super::FactsReply;
@@ -8,31 +7,12 @@ use answers::Answer;
 use space::LookedUp;
 use steps::Facts;
 use steps::Reply;
+use steps::replies::replied;
 use table::CapabilityEntry;
 use table::Got;
 use table::Nth;
 use token::CapabilityToken;
 use token::Rights;
-
-fn absent(visits: usize) -> Reply
-    ensures { λ r. ⌜ r ≡ replied Answer.NotFound 0 visits ⌝ }
-{
-    Reply {
-        answer: Answer::NotFound,
-        value: 0,
-        count: visits,
-    }
-}
-
-fn found(value: u64, visits: usize) -> Reply
-    ensures { λ r. ⌜ r ≡ replied Answer.Done value visits ⌝ }
-{
-    Reply {
-        answer: Answer::Done,
-        value,
-        count: visits,
-    }
-}
 
 pub fn rights_reply(l: LookedUp) -> Reply
     ensures { λ r. ⌜ r ≡ rightsReply (l .got) (l .visits) ⌝ }
@@ -41,9 +21,9 @@ pub fn rights_reply(l: LookedUp) -> Reply
     match got {
         Got::Entry(entry) => {
             let rights = entry.rights;
-            found(rights.0 as u64, l.visits)
+            replied(Answer::Done, rights.0 as u64, l.visits)
         }
-        Got::Nothing => absent(l.visits),
+        Got::Nothing => replied(Answer::NotFound, 0, l.visits),
     }
 }
 
@@ -52,8 +32,8 @@ pub fn object_reply(l: LookedUp) -> Reply
 {
     let got = l.got;
     match got {
-        Got::Entry(entry) => found(entry.object, l.visits),
-        Got::Nothing => absent(l.visits),
+        Got::Entry(entry) => replied(Answer::Done, entry.object, l.visits),
+        Got::Nothing => replied(Answer::NotFound, 0, l.visits),
     }
 }
 
@@ -62,8 +42,8 @@ pub fn gone_reply(l: LookedUp) -> Reply
 {
     let got = l.got;
     match got {
-        Got::Entry(_) => found(0, l.visits),
-        Got::Nothing => absent(l.visits),
+        Got::Entry(_) => replied(Answer::Done, 0, l.visits),
+        Got::Nothing => replied(Answer::NotFound, 0, l.visits),
     }
 }
 
@@ -72,13 +52,13 @@ pub fn held_reply(l: LookedUp, required: Rights) -> Reply
 {
     let got = l.got;
     let Got::Entry(entry) = got else {
-        return found(0, l.visits);
+        return replied(Answer::Done, 0, l.visits);
     };
     let rights = entry.rights;
     if rights.contains(required) {
-        return found(1, l.visits);
+        return replied(Answer::Done, 1, l.visits);
     }
-    found(0, l.visits)
+    replied(Answer::Done, 0, l.visits)
 }
 
 pub fn no_entry(answer: Answer, visits: usize) -> EntryReply

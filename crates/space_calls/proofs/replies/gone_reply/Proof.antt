@@ -7,11 +7,11 @@ use Rattle.space_calls.proofs.replies.gone_reply.Tie as tie
 
 returns : tie.Need-returns
 returns c =
-    c .found .ensures ∙ sym (ap (λ g. goneReply g (c .before .before .before .args .l .visits)) (c .before .enum-told .given .1))
+    c .replied .ensures ∙ sym (ap (λ g. goneReply g (c .before .before .before .args .l .visits)) (c .before .enum-told .given .1))
 
 returns-2 : tie.Need-returns-2
 returns-2 c =
-    c .absent .ensures ∙ sym (ap (λ g. goneReply g (c .before .before .before .args .l .visits)) (c .before .enum-told2 .given .1))
+    c .replied2 .ensures ∙ sym (ap (λ g. goneReply g (c .before .before .before .args .l .visits)) (c .before .enum-told2 .given .1))
 
 pub gone-reply-spec : {M : Type 1} → statement M
 gone-reply-spec = tie.close (tie.spec (λ c. search needs) (λ c κs. search needs) (λ c. search needs)

@@ -11,14 +11,14 @@ use Rattle.space_calls.proofs.replies.held_reply.Tie as tie
 returns : tie.Need-returns
 returns c =
     let args = c .before .before .before .args in
-    c .found .ensures ∙ sym (ap (λ g. heldReply (args .required .0) g (args .l .visits)) (c .before .enum-told .given .1))
+    c .replied .ensures ∙ sym (ap (λ g. heldReply (args .required .0) g (args .l .visits)) (c .before .enum-told .given .1))
 
 returns-2 : tie.Need-returns-2
 returns-2 c =
     let tested = c .before .before in
     let seen = tested .before .before .before in
     let args = seen .before .before .args in
-    c .found2 .ensures
+    c .replied2 .ensures
     ∙ ap (λ b. replied Done (one b) (args .l .visits)) (sym (c .before .if1 .taken) ∙ tested .contains .ensures)
     ∙ sym (ap (λ g. heldReply (args .required .0) g (args .l .visits)) (seen .got .given .1))
 
@@ -27,7 +27,7 @@ returns-3 c =
     let tested = c .before .before in
     let seen = tested .before .before .before in
     let args = seen .before .before .args in
-    c .found3 .ensures
+    c .replied3 .ensures
     ∙ ap (λ b. replied Done (one b) (args .l .visits)) (sym (c .before .if1 .left) ∙ tested .contains .ensures)
     ∙ sym (ap (λ g. heldReply (args .required .0) g (args .l .visits)) (seen .got .given .1))
 
