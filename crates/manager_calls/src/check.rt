@@ -14,6 +14,7 @@ use steps::enter::enter_world;
 use steps::registered::place_of;
 use steps::replies::done;
 use steps::replies::refusal;
+use steps::replies::replied;
 use table::Got;
 use token::CapabilityToken;
 use token::Rights;
@@ -59,24 +60,12 @@ pub fn check_capability(
         Entered::Good(d) => {
             let l = spaces::lookup(mem, d, s, token);
             if !grants(l, required) {
-                return Reply {
-                    answer: Answer::InsufficientRights,
-                    value: 0,
-                    count: l.visits,
-                };
+                return replied(Answer::InsufficientRights, 0, l.visits);
             }
             if !valid_in(mem, d, token) {
-                return Reply {
-                    answer: Answer::CapabilityRevoked,
-                    value: 0,
-                    count: l.visits,
-                };
+                return replied(Answer::CapabilityRevoked, 0, l.visits);
             }
-            Reply {
-                answer: Answer::Done,
-                value: 0,
-                count: l.visits,
-            }
+            replied(Answer::Done, 0, l.visits)
         }
     }
 }
@@ -86,11 +75,6 @@ pub fn is_valid(mem: &[u64], token: CapabilityToken) -> Reply
 {
     match enter_world(mem) {
         Entered::Refused(answer) => refusal(answer),
-        Entered::Good(d) => {
-            if valid_in(mem, d, token) {
-                return done(1);
-            }
-            done(0)
-        }
+        Entered::Good(d) => done(valid_in(mem, d, token) as u64),
     }
 }

@@ -34,14 +34,15 @@ pub fn delete(mem: &mut [u64], token: CapabilityToken) -> Reply
     match enter_world(mem) {
         Entered::Refused(answer) => refusal(answer),
         Entered::Good(d) => {
-            let k = place_of(mem, d, token.id());
+            let id = token.id();
+            let k = place_of(mem, d, id);
             if mem[11] as usize <= k {
                 return refusal(Answer::NotFound);
             }
             if d.places < mem[12] as usize {
                 return refusal(Answer::RecycleFull);
             }
-            delete_at(mem, d, k, token.id());
+            delete_at(mem, d, k, id);
             done(0)
         }
     }

@@ -1,19 +1,17 @@
 -- Entered, the type and the object's flag are looked at, then an id is taken.
 use borrow.Author.Needs.{needs}
-use borrow.Author.Tests.{lt-ltb, le-ltb}
-use mathlib.Core.Path.{refl, sym, ap, ap₂, _∙_}
-use Rattle.base.specs.Choose.{when-yes, when-no}
-use Rattle.steps.proofs.Entering.{space-refusal, space-call, space-ready}
+use borrow.Author.Tests.{le-ltb}
+use mathlib.Core.Path.{sym, ap, ap₂, _∙_}
+use Rattle.base.specs.Choose.{when-no}
+use Rattle.steps.proofs.Entering.{space-call, space-ready, enters}
 use Rattle.steps.proofs.Leaving.{left-is}
+use Rattle.steps.proofs.laws.Cases.{chooses}
 use Rattle.steps.proofs.laws.ReadyKept.{ready-take, take-room}
 use Rattle.manager_calls.specs.Calls.{created, createOut}
 use Rattle.manager_calls.proofs.creation.create_capability.Statement.{statement}
 use Rattle.manager_calls.proofs.creation.create_capability.Tie as tie
 
-take-id-requires : tie.Need-take-id-requires
-take-id-requires c κs =
-    let seen = c .before .before .before .before in
-    space-ready _ _ _ (seen .before .before .enter-space .ensures) _ (seen .d .given .1) .0
+ruleset laws = (enters, chooses)
 
 create-with-requires : tie.Need-create-with-requires
 create-with-requires c κs =
@@ -24,31 +22,6 @@ create-with-requires c κs =
     let (ready, there) = space-ready _ _ _ (seen .before .before .enter-space .ensures) _ (seen .d .given .1) in
     let room = take-room _ _ ready _ (sym (call .take-id .ensures .1) ∙ took .id .given .1) in
     rw (call .take-id .ensures .0) (ready-take _ _ ready, there, tested .if1 .left, room)
-
-returns : tie.Need-returns
-unfolding createOut
-returns c =
-    let tested = c .before in
-    let seen = tested .before .before in
-    left-is (c .refusal2 .ensures) refl
-    (space-call _ _ _ (seen .before .before .enter-space .ensures) _ (seen .d .given .1) _ _
-    ∙ when-yes _ _ _ (lt-ltb _ _ (tested .if1 .taken)))
-
-returns-2 : tie.Need-returns-2
-unfolding createOut
-returns-2 c =
-    let flagged = c .before in
-    let tested = flagged .before in
-    let seen = tested .before .before in
-    left-is (c .refusal3 .ensures) refl
-    (space-call _ _ _ (seen .before .before .enter-space .ensures) _ (seen .d .given .1) _ _
-    ∙ when-no _ _ _ (le-ltb _ _ (tested .if1 .left)) ∙ when-yes _ _ _ (flagged .if2 .taken))
-
-returns-3 : tie.Need-returns-3
-unfolding createOut
-returns-3 c =
-    let seen = c .before .before in
-    left-is (c .refusal .ensures) refl (space-refusal _ _ _ (seen .before .before .enter-space .ensures) _ _ _ (seen .answer .given .1))
 
 returns-4 : tie.Need-returns-4
 unfolding createOut
@@ -83,9 +56,10 @@ returns-5 c =
     (sym (call .take-id .ensures .1) ∙ took .enum-told .given .1))
 
 pub create-capability-spec : {M : Type 1} → statement M
+unfolding createOut
 create-capability-spec =
     tie.close
     (tie.spec (λ c κs. search needs) (λ c. search needs) (λ c κs. search needs) (λ c. search needs) (λ c κs. search needs)
-    (λ c. search needs) returns (λ c κs. search needs) (λ c. search needs) returns-2 take-id-requires (λ c. search needs)
-    create-with-requires (λ c. search needs) (λ c κs. search needs) (λ c. search needs) returns-3 (λ c. search needs) returns-4
-    (λ c. search needs) returns-5)
+    (λ c. search needs) (λ c. search laws depth 8) (λ c κs. search needs) (λ c. search needs) (λ c. search laws depth 8)
+    (λ c κs. search laws) (λ c. search needs) create-with-requires (λ c. search needs) (λ c κs. search needs) (λ c. search needs)
+    (λ c. search laws depth 8) (λ c. search needs) returns-4 (λ c. search needs) returns-5)
