@@ -51,14 +51,13 @@ pub fn held_reply(l: LookedUp, required: Rights) -> Reply
     ensures { λ r. ⌜ r ≡ heldReply (required .0) (l .got) (l .visits) ⌝ }
 {
     let got = l.got;
-    let Got::Entry(entry) = got else {
-        return replied(Answer::Done, 0, l.visits);
-    };
-    let rights = entry.rights;
-    if rights.contains(required) {
-        return replied(Answer::Done, 1, l.visits);
+    match got {
+        Got::Entry(entry) => {
+            let rights = entry.rights;
+            replied(Answer::Done, rights.contains(required) as u64, l.visits)
+        }
+        Got::Nothing => replied(Answer::Done, 0, l.visits),
     }
-    replied(Answer::Done, 0, l.visits)
 }
 
 pub fn no_entry(answer: Answer, visits: usize) -> EntryReply

@@ -1,23 +1,14 @@
 -- Entered, the token is looked up.
 use borrow.Author.Needs.{needs}
-use mathlib.Core.Path.{ap, _∙_}
-use Rattle.space.specs.declared.LookedUp.{LookedUp}
 use Rattle.steps.proofs.Entering.{enters}
 use Rattle.space_calls.specs.Calls.{lookupOut}
-use Rattle.space_calls.specs.Replies.{rightsReply}
+use Rattle.space_calls.proofs.Replying.{replies}
 use Rattle.space_calls.proofs.entries.lookup.Statement.{statement}
 use Rattle.space_calls.proofs.entries.lookup.Tie as tie
-
-returns-2 : tie.Need-returns-2
-unfolding lookupOut
-returns-2 c =
-    let call = c .before .before .before in
-    let told = c .rights-reply .ensures ∙ ap (λ (l : LookedUp). rightsReply (l .got) (l .visits)) (call .lookup .ensures .1) in
-    search enters
 
 pub lookup-spec : {M : Type 1} → statement M
 unfolding lookupOut
 lookup-spec =
     tie.close
     (tie.spec (λ c κs. search needs) (λ c. search needs) (λ c κs. search needs) (λ c. search needs) (λ c κs. search enters)
-    (λ c κs. search needs) (λ c. search needs) (λ c. search enters) (λ c. search needs) returns-2)
+    (λ c κs. search needs) (λ c. search needs) (λ c. search enters) (λ c. search needs) (λ c. search replies))

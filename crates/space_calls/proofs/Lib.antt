@@ -1,0 +1,2 @@
+-- What the proofs of `space_calls` share.
+pub mod Replying
