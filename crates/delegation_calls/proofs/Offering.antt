@@ -1,9 +1,10 @@
 -- The children that are offered, in the words of the loop that offers them: one place, then those after it.
-use mathlib.Core.Bool.{Bool, true, false}
+use mathlib.Core.Bool.{Bool, true, false, not}
 use mathlib.Core.List.{List}
 use mathlib.Core.Path.{_≡_, refl, sym, ap, ap₂, _∙_}
 use Prim.Native.Nat.{ℕ, zero, suc, _+_, _-_, _≤_, _<_}
 use native.Mathlib.Omega.{arith}
+use borrow.Author.Tests.{not-true, not-false}
 use Rattle.base.specs.Choose.{pick}
 use Rattle.manager_calls.specs.Tokens.{tokenOf}
 use Rattle.space.specs.Lookup.{lookedUp}
@@ -87,29 +88,55 @@ module _ (d : Numbers) (target p cap-type rights : ℕ) where
   -- ---- one place
 
   module _ (k : ℕ) (mem : List ℕ) where
-    pub not-open : openChild d mem p k ≡ false → from k 1 mem ≡ record { held = false; token = 0; memory = mem }
-    unfolding offeredFrom
-    not-open shut = rw shut
+    -- By what the code saw of the place: whether it is an unrevoked child,
+    module _ (seen : Bool) (is-open : seen ≡ openChild d mem p k) where
+      shut-place : not seen ≡ true → from k 1 mem ≡ record { held = false; token = 0; memory = mem }
+      unfolding offeredFrom
+      shut-place shut = rw (sym is-open ∙ not-true seen shut)
 
-    -- By what the code made of the place and saw in the target.
-    module _ (opened : openChild d mem p k ≡ true) (id of-type : ℕ) (is-id : id ≡ ids d mem k) (is-type : of-type ≡ cap-type)
-        (child : CapabilityToken) (is-child : child .0 ≡ tokenOf id of-type rights)
-        (l : LookedUp) (looked : l ≡ lookedUp (spaceOf d target mem) (child .0))
-        (told : Bool) (tells : told ≡ heldWith rights (l .got))
-      where
-        is-token : child .0 ≡ childToken mem k
-        is-token = is-child ∙ ap₂ (λ id of-type. tokenOf id of-type rights) is-id is-type
+      pub shut-offers : not seen ≡ true → Absent ≡ offerOf (offeredFrom d target p cap-type rights k 1 mem)
+      unfolding offerOf
+      shut-offers shut = sym (ap offerOf (shut-place shut))
 
-        tells-there : told ≡ held-there mem k
-        tells-there = tells ∙ ap (λ (l : LookedUp). heldWith rights (l .got)) (looked ∙ ap (lookedUp (spaceOf d target mem)) is-token)
+      pub shut-leaves : not seen ≡ true → mem ≡ offeredFrom d target p cap-type rights k 1 mem .memory
+      shut-leaves shut = sym (ap (λ (o : Offered). o .memory) (shut-place shut))
 
-        pub open-held : told ≡ true → from k 1 mem ≡ record { held = true; token = child .0; memory = lookupStep d target (child .0) mem }
-        unfolding offeredFrom
-        open-held e = rw (opened, sym tells-there ∙ e, is-token)
+      -- the token that it made of it, and whether the target holds that.
+      module _ (opened : not seen ≡ false) (id of-type : ℕ) (is-id : id ≡ ids d mem k) (is-type : of-type ≡ cap-type)
+          (child : CapabilityToken) (is-child : child .0 ≡ tokenOf id of-type rights)
+          (l : LookedUp) (looked : l ≡ lookedUp (spaceOf d target mem) (child .0))
+          (told : Bool) (tells : told ≡ heldWith rights (l .got))
+        where
+          is-token : child .0 ≡ childToken mem k
+          is-token = is-child ∙ ap₂ (λ id of-type. tokenOf id of-type rights) is-id is-type
 
-        pub open-not-held : told ≡ false → from k 1 mem ≡ record { held = false; token = 0; memory = lookupStep d target (child .0) mem }
-        unfolding offeredFrom
-        open-not-held e = rw (opened, sym tells-there ∙ e, is-token)
+          tells-there : told ≡ held-there mem k
+          tells-there = tells ∙ ap (λ (l : LookedUp). heldWith rights (l .got)) (looked ∙ ap (lookedUp (spaceOf d target mem)) is-token)
+
+          open-place : from k 1 mem
+              ≡ pick told (record { held = true; token = child .0; memory = lookupStep d target (child .0) mem })
+              (record { held = false; token = 0; memory = lookupStep d target (child .0) mem })
+          unfolding offeredFrom
+          open-place = rw (sym is-open ∙ not-false seen opened, ← tells-there, is-token)
+
+          pub held-offers : told ≡ true → Held child ≡ offerOf (offeredFrom d target p cap-type rights k 1 mem)
+          unfolding offerOf
+          held-offers e = sym (ap offerOf (rw e at open-place))
+
+          pub absent-offers : told ≡ false → Absent ≡ offerOf (offeredFrom d target p cap-type rights k 1 mem)
+          unfolding offerOf
+          absent-offers e = sym (ap offerOf (rw e at open-place))
+
+          pub open-leaves : (after : List ℕ) → after ≡ lookupStep d target (child .0) mem
+              → after ≡ offeredFrom d target p cap-type rights k 1 mem .memory
+          open-leaves after is = is ∙ go told open-place
+            where
+              go : (b : Bool) → from k 1 mem
+                  ≡ pick b (record { held = true; token = child .0; memory = lookupStep d target (child .0) mem })
+                  (record { held = false; token = 0; memory = lookupStep d target (child .0) mem })
+                  → lookupStep d target (child .0) mem ≡ from k 1 mem .memory
+              go true e = sym (ap (λ (o : Offered). o .memory) e)
+              go false e = sym (ap (λ (o : Offered). o .memory) e)
 
     -- The others follow where it is not the one.
     one-by-one : (m : ℕ) → from k (suc m) mem ≡ pick (from k 1 mem .held) (from k 1 mem) (from (k + 1) m (from k 1 mem .memory))
