@@ -4,18 +4,17 @@ use mathlib.Core.Bool.{Bool, false, not}
 use mathlib.Core.List.{List}
 use Prim.Native.Nat.{ℕ, _^_}
 use lib.Dec.{leb, ltb}
-use lib.ListN.{length, getD}
+use lib.ListN.{getD}
 use Rattle.answers.specs.declared.Answer.{Answer}
 use Rattle.answers.specs.declared.Answer.the-variants.{Done, InsufficientRights, CapabilityRevoked, InvalidObject, NotFound, IdExhausted, BadField, RegistryFull, RecycleFull}
 use Rattle.base.specs.Below.{one}
 use Rattle.base.specs.Choose.{both, when}
-use Rattle.base.specs.Written.{written}
 use Rattle.registry.specs.Children.{childIds, parents, edges, strays}
 use Rattle.space.specs.Ids.{entryIds}
 use Rattle.space.specs.Lookup.{lookedUp}
 use Rattle.steps.specs.Enter.{onWorld, onSpace}
-use Rattle.steps.specs.Replies.{Left, WithArea, replied, done, refusal, refuse}
-use Rattle.steps.specs.Steps.{spaceOf, lookupStep, takenId, takeStep, placeIn, registerStep, unregisterStep, recycleStep, childrenOf, addStep}
+use Rattle.steps.specs.Replies.{Left, WithArea, replied, done, refusal, refuse, intoArea}
+use Rattle.steps.specs.Steps.{spaceOf, lookupStep, takenId, takeStep, placeIn, registerStep, unregisterStep, recycleStep, addStep}
 use Rattle.steps.specs.declared.Reply.{Reply}
 use Rattle.steps.specs.declared.Taken.{Taken}
 use Rattle.steps.specs.declared.Taken.the-variants.{Id, Exhausted}
@@ -102,17 +101,12 @@ statsOut mem =
       deleted = getD mem deletedWord 0;
     })
 
--- The children of an id in list order, to the area; the value is how many. 21 for an id over 2^48-1 or an area too short.
+-- The children of an id in list order, to the area. 21 for an id over 2^48-1 too.
 unfoldable pub childrenOut : List ℕ → ℕ → List ℕ → WithArea
 childrenOut mem id area =
     onWorld (λ a. record { reply = refusal a; area = area }) mem (λ d.
-    let p = placeIn d mem id in
     when (leb (2 ^ 48) id) (record { reply = refusal BadField; area = area })
-    (when (not (leb (childrenOf d mem p) (length area))) (record { reply = refusal BadField; area = area })
-    (record {
-      reply = done (childrenOf d mem p);
-      area = written (childIds (d .places) p (registeredOf mem) (view d registry mem)) area;
-    })))
+    (intoArea (childIds (d .places) (placeIn d mem id) (registeredOf mem) (view d registry mem)) area))
 
 -- How many ids have a list of children, and how many children there are.
 abbrev pub noTree : Answer → TreeReply

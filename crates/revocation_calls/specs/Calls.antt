@@ -8,14 +8,13 @@ use lib.ListN.{length, drop}
 use Rattle.answers.specs.declared.Answer.the-variants.{InvalidCapability, BadField}
 use Rattle.base.specs.Below.{one}
 use Rattle.base.specs.Choose.{pick, when}
-use Rattle.base.specs.Written.{written}
 use Rattle.registry.specs.Children.{idsAt}
 use Rattle.registry.specs.Descent.{descent}
 use Rattle.revocation.specs.Log.{pairOf, logHas}
 use Rattle.revocation.specs.Reason.{reasonOf, nameOf}
 use Rattle.space.specs.Lookup.{lookedUp}
 use Rattle.steps.specs.Enter.{onWorld, onSpace}
-use Rattle.steps.specs.Replies.{Left, WithArea, done, refusal, refuse}
+use Rattle.steps.specs.Replies.{Left, WithArea, done, refusal, refuse, intoArea}
 use Rattle.revocation_steps.specs.Revocation.{logOf}
 use Rattle.steps.specs.Steps.{spaceOf, lookupStep, placeIn}
 use Rattle.steps.specs.declared.Reply.{Reply}
@@ -64,12 +63,6 @@ isRevokedOut mem token =
 
 unfoldable pub epochOut : List ℕ → Reply
 epochOut mem = onWorld refusal mem (λ d. done (epochOf mem))
-
--- A list goes to the front of the lent area, whose places past it stay unchanged; the value is its length. 21 for an area too short.
-unfoldable pub intoArea : List ℕ → List ℕ → WithArea
-intoArea xs area =
-    when (ltb (length area) (length xs)) (record { reply = refusal BadField; area = area })
-    (record { reply = done (length xs); area = written xs area })
 
 -- `get_derivation_tree`: all descendants of an id, breadth first, to the area. 21 for an id over 2^48-1 too.
 abbrev pub descendants : Numbers → List ℕ → ℕ → List ℕ

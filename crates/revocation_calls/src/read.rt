@@ -1,9 +1,10 @@
 // What revocation says of itself: whether a token is in the log, the epoch, the descendants of an id, and the names of its reasons.
 ghost use mathlib.Core.Path.{_≡_};
 ghost use Prim.Native.Nat.{_<_};
+ghost use Rattle.steps.specs.Replies.{intoArea};
 ghost use Rattle.world.specs.Numbers.{registeredOf};
 ghost use Rattle.world.specs.Sound.{SoundAt};
-ghost use Rattle.revocation_calls.specs.Calls.{isRevokedOut, epochOut, descendants, intoArea, descendantsOut, reasonOut};
+ghost use Rattle.revocation_calls.specs.Calls.{isRevokedOut, epochOut, descendants, descendantsOut, reasonOut};
 use answers::Answer;
 use revocation::reason_of;
 use revocation_steps::descent::descend;

@@ -11,6 +11,7 @@ pub mod Taking
 pub mod TakeStep
 pub mod RegistrySteps
 pub mod Cases
+pub mod Listed
 pub mod Entered
 pub mod Determined
 pub mod Called

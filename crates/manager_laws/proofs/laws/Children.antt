@@ -1,6 +1,5 @@
 -- `get_children` given 0: the ids of the children in list order, in front of the area. List order is the order of their places in the
 -- registry, which is the order of registration.
-use mathlib.Core.Bool.{not}
 use mathlib.Core.List.{List}
 use mathlib.Core.Logic.{_↔_}
 use mathlib.Core.Path.{_≡_, refl, sym, ap, _∙_}
@@ -13,13 +12,14 @@ use Rattle.answers.specs.declared.Answer.the-variants.{Done}
 use Rattle.base.specs.Members.{In}
 use Rattle.base.specs.Written.{written}
 use Rattle.registry.specs.Children.{childPlaces, idsAt, childIds}
-use Rattle.registry.specs.ChildrenLaws.{Sisters, child-places-exactly, ids-at-length, ids-at, child-ids-length}
+use Rattle.registry.specs.ChildrenLaws.{Sisters, child-places-exactly, ids-at-length, ids-at}
 use Rattle.registry.specs.HoldersLaws.{place-holds, place-is}
 use Rattle.registry.specs.Words.{idAt}
 use Rattle.steps.specs.Replies.{WithArea}
-use Rattle.steps.specs.Steps.{placeIn, ChildOf, childrenOf}
+use Rattle.steps.specs.Steps.{placeIn, ChildOf}
 use Rattle.steps.proofs.laws.Cases.{when-by-cases}
 use Rattle.steps.proofs.laws.Entered.{world-by-cases}
+use Rattle.steps.proofs.laws.Listed.{into-by-cases}
 use Rattle.world.specs.Numbers.{numbersOf, registeredOf}
 use Rattle.world.specs.Regions.{registry, view}
 use Rattle.world.specs.Sound.{links, SoundAt}
@@ -87,18 +87,9 @@ children-listed mem id area =
     (λ sound.
     when-by-cases Lists _ _ (leb (2 ^ 48) id) (λ over e. absurd (omega (arith, ap numberOf e)))
     (λ fits.
-    when-by-cases Lists _ _ (not (leb (childrenOf d mem p) (length area))) (λ short e. absurd (omega (arith, ap numberOf e)))
-    (λ long e.
-    let xs : List ℕ = childIds (d .places) p (registeredOf mem) (view d registry mem) in
-    let count = child-ids-length (d .places) p (registeredOf mem) (view d registry mem) in
-    (xs, (children-of d mem sound id, (refl, sym count))))))
+    into-by-cases _ area Lists (λ short e. absurd (omega (arith, ap numberOf e)))
+    (λ long e. (_, (children-of (numbersOf mem) mem sound id, (refl, refl))))))
   where
-    d : Numbers
-    d = numbersOf mem
-
-    p : ℕ
-    p = placeIn d mem id
-
     Lists : WithArea → Type 0
     Lists l =
         l .reply .answer ≡ Done

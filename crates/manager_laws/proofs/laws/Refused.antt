@@ -6,30 +6,29 @@ use mathlib.Core.Logic.{_↔_, _⊎_, inl, inr, ⊎-elim}
 use mathlib.Core.Path.{_≡_, refl, sym, ap, _∙_}
 use Prim.Native.Nat.{ℕ, _^_, _≤_, _<_}
 use native.Mathlib.Omega.{arith}
-use borrow.Author.Tests.{leb-true, leb-false, not-true, not-false}
+use borrow.Author.Tests.{leb-true, leb-false}
 use lib.Dec.{leb, ltb}
 use lib.ListN.{length}
 use Rattle.answers.specs.Number.{numberOf}
-use Rattle.answers.specs.declared.Answer.{Answer}
 use Rattle.answers.specs.declared.Answer.the-variants.{Done, InsufficientRights, CapabilityRevoked, NotFound, BadSpace, BadField, RecycleFull, BadWorld}
+use Rattle.registry.specs.ChildrenLaws.{child-ids-length}
 use Rattle.space.specs.Lookup.{lookedUp}
 use Rattle.steps.specs.Replies.{Left, WithArea, done, refusal}
 use Rattle.steps.specs.Steps.{spaceOf, lookupStep, placeIn, childrenOf}
 use Rattle.steps.specs.declared.Reply.{Reply}
-use Rattle.steps.proofs.laws.Cases.{when-by-cases, given, not-given}
+use Rattle.steps.proofs.laws.Cases.{answerOf, when-by-cases, Exactly, given, not-given}
 use Rattle.steps.proofs.laws.Entered.{world-by-cases, space-by-cases}
+use Rattle.steps.proofs.laws.Listed.{into-by-cases}
 use Rattle.steps.proofs.laws.Told.{Told, Inner, told, world-told, inner, inner-0}
 use Rattle.token.specs.Token.{idOf}
 use Rattle.world.specs.Numbers.{numbersOf, registeredOf, recycledOf}
+use Rattle.world.specs.Regions.{registry, view}
 use Rattle.world.specs.Sound.{Sound}
 use Rattle.world.specs.declared.Numbers.{Numbers}
 use Rattle.manager_calls.specs.Calls.{deleteOut, grants, validIn, checkOut, isValidOut, statsOut, childrenOut, treeStatsOut, censusOut}
 use Rattle.manager_calls.specs.declared.StatsReply.{StatsReply}
 use Rattle.manager_calls.specs.declared.TreeReply.{TreeReply}
 use Rattle.manager_laws.proofs.laws.Ways.{delete-by-cases, check-by-cases}
-
-abbrev answerOf : Left Reply → Answer
-answerOf out = out .reply .answer
 
 -- ---- 26 and 20: no answer of a call's own is either
 
@@ -82,9 +81,7 @@ module _ (mem : List ℕ) where
       let fine : WithArea → Type 0 = λ (l : WithArea). Inner (l .reply .answer) in
       world-told (λ (l : WithArea). l .reply .answer) _ mem _ (λ a. refl)
       (when-by-cases fine _ _ (leb (2 ^ 48) id) (λ over. inner BadField refl refl)
-      (λ fits.
-      when-by-cases fine _ _ (not (leb (childrenOf d mem (placeIn d mem id)) (length area))) (λ short. inner BadField refl refl)
-      (λ long. inner-0)))
+      (λ fits. into-by-cases _ area fine (λ short. inner BadField refl refl) (λ long. inner-0)))
 
 -- ---- 0 of the calls with no refusal of their own
 
@@ -127,7 +124,7 @@ module _ (mem : List ℕ) (sound : Sound mem) where
     pub delete-told-8 :
         (deleteOut mem token .reply .answer ≡ NotFound) ↔ (registeredOf mem ≤ placeIn (numbersOf mem) mem (idOf token))
     delete-told-8 =
-        delete-by-cases mem token (λ out. (answerOf out ≡ NotFound) ↔ (n ≤ k))
+        delete-by-cases mem token (Exactly NotFound (n ≤ k))
         (λ bad. absurd (bad sound))
         (λ sound outside. (λ e. outside, λ l. refl))
         (λ sound inside full. (λ e. absurd (omega (arith, ap numberOf e)), λ l. absurd (omega arith)))
@@ -137,7 +134,7 @@ module _ (mem : List ℕ) (sound : Sound mem) where
         (deleteOut mem token .reply .answer ≡ RecycleFull)
         ↔ ((placeIn (numbersOf mem) mem (idOf token) < registeredOf mem) × (numbersOf mem .places < recycledOf mem))
     delete-told-23 =
-        delete-by-cases mem token (λ out. (answerOf out ≡ RecycleFull) ↔ ((k < n) × (numbersOf mem .places < recycledOf mem)))
+        delete-by-cases mem token (Exactly RecycleFull ((k < n) × (numbersOf mem .places < recycledOf mem)))
         (λ bad. absurd (bad sound))
         (λ sound outside. (λ e. absurd (omega (arith, ap numberOf e)), λ (l, u). absurd (omega arith)))
         (λ sound inside full. (λ e. (inside, full), λ (l, u). refl))
@@ -147,7 +144,7 @@ module _ (mem : List ℕ) (sound : Sound mem) where
         (deleteOut mem token .reply .answer ≡ Done)
         ↔ ((placeIn (numbersOf mem) mem (idOf token) < registeredOf mem) × (recycledOf mem ≤ numbersOf mem .places))
     delete-told-0 =
-        delete-by-cases mem token (λ out. (answerOf out ≡ Done) ↔ ((k < n) × (recycledOf mem ≤ numbersOf mem .places)))
+        delete-by-cases mem token (Exactly Done ((k < n) × (recycledOf mem ≤ numbersOf mem .places)))
         (λ bad. absurd (bad sound))
         (λ sound outside. (λ e. absurd (omega (arith, ap numberOf e)), λ (l, u). absurd (omega arith)))
         (λ sound inside full. (λ e. absurd (omega (arith, ap numberOf e)), λ (l, u). absurd (omega arith)))
@@ -164,7 +161,7 @@ module _ (mem : List ℕ) (sound : Sound mem) where
         (checkOut mem token required s .reply .answer ≡ InsufficientRights)
         ↔ (grants required (lookedUp (spaceOf (numbersOf mem) s mem) token .got) ≡ false)
     check-told-2 =
-        check-by-cases mem token required s (λ out. (answerOf out ≡ InsufficientRights) ↔ (granted ≡ false))
+        check-by-cases mem token required s (Exactly InsufficientRights (granted ≡ false))
         (λ bad. absurd (bad sound))
         (λ sound far. absurd (omega arith))
         (λ sound there without. (λ e. without, λ w. refl))
@@ -175,7 +172,7 @@ module _ (mem : List ℕ) (sound : Sound mem) where
         (checkOut mem token required s .reply .answer ≡ CapabilityRevoked)
         ↔ ((grants required (lookedUp (spaceOf (numbersOf mem) s mem) token .got) ≡ true) × (validIn (numbersOf mem) mem token ≡ false))
     check-told-3 =
-        check-by-cases mem token required s (λ out. (answerOf out ≡ CapabilityRevoked) ↔ ((granted ≡ true) × (good ≡ false)))
+        check-by-cases mem token required s (Exactly CapabilityRevoked ((granted ≡ true) × (good ≡ false)))
         (λ bad. absurd (bad sound))
         (λ sound far. absurd (omega arith))
         (λ sound there without. (λ e. absurd (omega (arith, ap numberOf e)), λ (w, i). absurd (true≢false (sym w ∙ without))))
@@ -197,9 +194,10 @@ module _ (mem : List ℕ) (sound : Sound mem) where
         when-by-cases P _ _ (leb (2 ^ 48) id)
         (λ over. refused (inl (leb-true (2 ^ 48) id over)))
         (λ fits.
-        when-by-cases P _ _ (not (leb count (length area)))
-        (λ short. refused (inr (leb-false count (length area) (not-true _ short))))
-        (λ long. listed (leb-false (2 ^ 48) id fits) (leb-true count (length area) (not-false _ long)) _)))
+        let d : Numbers = numbersOf mem in
+        let same = child-ids-length (d .places) (placeIn d mem id) (registeredOf mem) (view d registry mem) in
+        into-by-cases _ area P (λ short. refused (inr (omega arith)))
+        (λ long. rw same (listed (leb-false (2 ^ 48) id fits) (omega arith) _))))
 
     pub children-told-21 :
         (childrenOut mem id area .reply .answer ≡ BadField)

@@ -1,20 +1,16 @@
 -- The manager's calls that only read: a refusal's value is 0, and a refused list of children leaves the lent area as it was. Unchanged.antt
 -- says it of the others.
-use mathlib.Core.Bool.{not}
 use mathlib.Core.List.{List}
 use mathlib.Core.Logic.{_≢_}
 use mathlib.Core.Path.{_≡_, refl}
 use Prim.Native.Nat.{ℕ, _^_}
 use lib.Dec.{leb}
-use lib.ListN.{length}
 use Rattle.answers.specs.declared.Answer.the-variants.{Done}
 use Rattle.steps.specs.Replies.{WithArea, refusal}
-use Rattle.steps.specs.Steps.{placeIn, childrenOf}
 use Rattle.steps.specs.declared.Reply.{Reply}
 use Rattle.steps.proofs.laws.Cases.{when-by-cases}
 use Rattle.steps.proofs.laws.Entered.{world-by-cases, space-by-cases}
-use Rattle.world.specs.Numbers.{numbersOf}
-use Rattle.world.specs.declared.Numbers.{Numbers}
+use Rattle.steps.proofs.laws.Listed.{into-by-cases}
 use Rattle.manager_calls.specs.Calls.{isValidOut, noStats, statsOut, childrenOut, noTree, treeStatsOut, censusOut}
 use Rattle.manager_calls.specs.declared.StatsReply.{StatsReply}
 use Rattle.manager_calls.specs.declared.TreeReply.{TreeReply}
@@ -23,9 +19,6 @@ abbrev NoValue : Reply → Type 0
 NoValue r = r .answer ≢ Done → r .value ≡ 0
 
 module _ (mem : List ℕ) where
-  abbrev d : Numbers
-  d = numbersOf mem
-
   pub is-valid-value : (token : ℕ) → isValidOut mem token .answer ≢ Done → isValidOut mem token .value ≡ 0
   unfolding isValidOut
   is-valid-value token = world-by-cases NoValue refusal mem _ (λ bad not-0. refl) (λ sound not-0. absurd (not-0 refl))
@@ -56,9 +49,7 @@ module _ (mem : List ℕ) where
       world-by-cases Same _ mem _ (λ bad not-0. (refl, refl))
       (λ sound.
       when-by-cases Same _ _ (leb (2 ^ 48) id) (λ over not-0. (refl, refl))
-      (λ fits.
-      when-by-cases Same _ _ (not (leb (childrenOf d mem (placeIn d mem id)) (length area))) (λ short not-0. (refl, refl))
-      (λ long not-0. absurd (not-0 refl))))
+      (λ fits. into-by-cases _ area Same (λ short not-0. (refl, refl)) (λ long not-0. absurd (not-0 refl))))
     where
       Same : WithArea → Type 0
       Same l = l .reply .answer ≢ Done → (l .area ≡ area) × (l .reply .value ≡ 0)

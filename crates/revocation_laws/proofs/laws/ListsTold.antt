@@ -15,33 +15,30 @@ use Rattle.base.specs.Choose.{when}
 use Rattle.revocation.specs.Reason.{reasonOf, nameOf}
 use Rattle.revocation_steps.specs.Revocation.{queueFor}
 use Rattle.steps.specs.Enter.{onWorld}
-use Rattle.steps.specs.Replies.{WithArea, refusal}
+use Rattle.steps.specs.Replies.{WithArea, intoArea, refusal}
 use Rattle.steps.specs.Steps.{placeIn}
 use Rattle.steps.proofs.laws.Cases.{when-by-cases, Exactly, given, not-given}
 use Rattle.steps.proofs.laws.Entered.{world-by-cases, world-called}
+use Rattle.steps.proofs.laws.Listed.{into-by-cases}
 use Rattle.world.specs.Numbers.{numbersOf}
 use Rattle.world.specs.Sound.{Sound}
 use Rattle.world.specs.declared.Numbers.{Numbers}
 use Rattle.notification_calls.specs.Calls.{notifyOut, noticesFor, peekOut, drainOut}
-use Rattle.revocation_calls.specs.Calls.{intoArea, descendants, descendantsOut, reasonOut}
+use Rattle.revocation_calls.specs.Calls.{descendants, descendantsOut, reasonOut}
 use Rattle.revocation_laws.proofs.laws.NoticeWays.{NoPlace, HasPlace, TooShort, LongEnough, notify-by-cases, peek-by-cases, drain-peeks}
 
 -- ---- lists
 
 -- The area is too short.
 listed-told-21 : (xs area : List ℕ) → (intoArea xs area .reply .answer ≡ BadField) ↔ (length area < length xs)
-unfolding intoArea
 listed-told-21 xs area =
-    when-by-cases (λ (l : WithArea). (l .reply .answer ≡ BadField) ↔ (length area < length xs)) _ _ (ltb (length area) (length xs))
-    (λ e. given refl (ltb-true _ _ e))
-    (λ e. let fits = ltb-false (length area) (length xs) e in not-given Done BadField (λ e. omega arith) (λ short. omega arith))
+    into-by-cases xs area (λ (l : WithArea). (l .reply .answer ≡ BadField) ↔ (length area < length xs)) (λ short. given refl short)
+    (λ fits. not-given Done BadField (λ e. omega arith) (λ short. omega arith))
 
 listed-told-0 : (xs area : List ℕ) → (intoArea xs area .reply .answer ≡ Done) ↔ (length xs ≤ length area)
-unfolding intoArea
 listed-told-0 xs area =
-    when-by-cases (λ (l : WithArea). (l .reply .answer ≡ Done) ↔ (length xs ≤ length area)) _ _ (ltb (length area) (length xs))
-    (λ e. let short = ltb-true (length area) (length xs) e in not-given BadField Done (λ e. omega arith) (λ fits. omega arith))
-    (λ e. given refl (ltb-false _ _ e))
+    into-by-cases xs area (λ (l : WithArea). (l .reply .answer ≡ Done) ↔ (length xs ≤ length area))
+    (λ short. not-given BadField Done (λ e. omega arith) (λ fits. omega arith)) (λ fits. given refl fits)
 
 -- A field is tested first.
 module _ (b : Bool) (area : List ℕ) (rest : WithArea) (Bad Good : Type 0) (is-bad : b ≡ true → Bad) (is-good : b ≡ false → Good)

@@ -16,11 +16,12 @@ use Rattle.base.specs.Choose.{both, when}
 use Rattle.revocation_steps.specs.Revocation.{queueFor, freeQueue}
 use Rattle.space.specs.Lookup.{lookedUp}
 use Rattle.steps.specs.Enter.{onWorld}
-use Rattle.steps.specs.Replies.{Left, WithArea, refuse}
+use Rattle.steps.specs.Replies.{Left, WithArea, refuse, intoArea}
 use Rattle.steps.specs.Steps.{spaceOf, lookupStep, placeIn}
 use Rattle.steps.specs.declared.Reply.{Reply}
 use Rattle.steps.proofs.laws.Cases.{when-by-cases, given}
 use Rattle.steps.proofs.laws.Entered.{world-by-cases}
+use Rattle.steps.proofs.laws.Listed.{into-by-cases}
 use Rattle.steps.proofs.laws.Told.{Told, Inner, told, world-told, inner, inner-0}
 use Rattle.table.specs.declared.Got.{Got}
 use Rattle.table.specs.declared.Got.the-variants.{Entry, Nothing}
@@ -31,7 +32,7 @@ use Rattle.world.specs.Sound.{Sound}
 use Rattle.world.specs.declared.Numbers.{Numbers}
 use Rattle.notification_calls.specs.Calls.{notifyOut, noticesFor, peekOut, drainOut, notificationCountOut, cleanupOut, notificationStatsOut}
 use Rattle.notification_calls.specs.declared.QueuesReply.{QueuesReply}
-use Rattle.revocation_calls.specs.Calls.{revokeOut, revokeCapabilityOut, revokeHeldOut, revokeBatchOut, isRevokedOut, epochOut, intoArea, descendants, descendantsOut}
+use Rattle.revocation_calls.specs.Calls.{revokeOut, revokeCapabilityOut, revokeHeldOut, revokeBatchOut, isRevokedOut, epochOut, descendants, descendantsOut}
 use Rattle.revocation_calls.specs.Revoking.{revokingHeld}
 use Rattle.revocation_laws.proofs.laws.Ways.{Own, own-not, revoking-own, revoking-token-own, each-done}
 use Rattle.revocation_laws.proofs.laws.NoticeWays.{drain-peeks}
@@ -62,8 +63,7 @@ inner-held d token time listed mem (Entry e) visits =
     (λ with′. inner-own _ (revoking-token-own d mem token time listed))
 
 inner-listed : (xs area : List ℕ) → Inner (intoArea xs area .reply .answer)
-unfolding intoArea
-inner-listed xs area = when-by-cases FineList _ _ (ltb (length area) (length xs)) (λ short. inner BadField refl refl) (λ fits. inner-0)
+inner-listed xs area = into-by-cases xs area FineList (λ short. inner BadField refl refl) (λ fits. inner-0)
 
 -- ---- call by call
 

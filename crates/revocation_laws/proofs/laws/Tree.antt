@@ -5,7 +5,7 @@ use mathlib.Core.Path.{_≡_, refl, sym, ap, _∙_}
 use Prim.Native.Nat.{ℕ, zero, suc, _+_, _^_, _≤_, _<_}
 use native.Mathlib.Omega.{arith}
 use borrow.Author.Tests.{lt-ltb, le-ltb}
-use lib.Dec.{leb, ltb}
+use lib.Dec.{leb}
 use lib.ListN.{length, getD, drop, length-drop}
 use lib.Seq.{getD-drop}
 use Rattle.answers.specs.Number.{numberOf}
@@ -22,11 +22,12 @@ use Rattle.steps.specs.Replies.{WithArea}
 use Rattle.steps.specs.Steps.{placeIn, ChildOf}
 use Rattle.steps.proofs.laws.Cases.{when-by-cases}
 use Rattle.steps.proofs.laws.Entered.{world-by-cases}
+use Rattle.steps.proofs.laws.Listed.{into-by-cases}
 use Rattle.world.specs.Numbers.{numbersOf, registeredOf}
 use Rattle.world.specs.Regions.{registry, view}
 use Rattle.world.specs.Sound.{ids, links, SoundAt}
 use Rattle.world.specs.declared.Numbers.{Numbers}
-use Rattle.revocation_calls.specs.Calls.{intoArea, descendants, descendantsOut}
+use Rattle.revocation_calls.specs.Calls.{descendants, descendantsOut}
 use Rattle.revocation_laws.proofs.laws.Meaning.{Descends}
 
 -- The list has exactly the ids that descend from the id, but for itself, each once, and each behind its parent or a child of the id.
@@ -151,13 +152,12 @@ pub descendants-listed :
     (mem : List ℕ) (id : ℕ) (area : List ℕ) → descendantsOut mem id area .reply .answer ≡ Done
     → (descendantsOut mem id area .area ≡ written (descendants (numbersOf mem) mem (placeIn (numbersOf mem) mem id)) area)
     × (descendantsOut mem id area .reply .value ≡ length (descendants (numbersOf mem) mem (placeIn (numbersOf mem) mem id)))
-unfolding descendantsOut intoArea
+unfolding descendantsOut
 descendants-listed mem id area =
     world-by-cases Lists _ mem _ (λ bad e. absurd (omega (arith, ap numberOf e)))
     (λ sound.
     when-by-cases Lists _ _ (leb (2 ^ 48) id) (λ over e. absurd (omega (arith, ap numberOf e)))
-    (λ fits.
-    when-by-cases Lists _ _ (ltb (length area) (length list)) (λ short e. absurd (omega (arith, ap numberOf e))) (λ long e. (refl, refl))))
+    (λ fits. into-by-cases list area Lists (λ short e. absurd (omega (arith, ap numberOf e))) (λ long e. (refl, refl))))
   where
     list : List ℕ
     list = descendants (numbersOf mem) mem (placeIn (numbersOf mem) mem id)

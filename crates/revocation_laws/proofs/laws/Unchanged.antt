@@ -13,11 +13,12 @@ use Rattle.answers.specs.declared.Answer.the-variants.{Done, InvalidCapability,
 use Rattle.registry.specs.Words.{revoked}
 use Rattle.revocation.specs.Reason.{reasonOf, nameOf}
 use Rattle.space.specs.Lookup.{lookedUp}
-use Rattle.steps.specs.Replies.{Left, WithArea, replied, done, refusal, refuse}
+use Rattle.steps.specs.Replies.{Left, WithArea, replied, done, refusal, refuse, intoArea}
 use Rattle.steps.specs.Steps.{spaceOf, lookupStep, placeIn}
 use Rattle.steps.specs.declared.Reply.{Reply}
 use Rattle.steps.proofs.laws.Cases.{when-by-cases}
 use Rattle.steps.proofs.laws.Entered.{world-by-cases}
+use Rattle.steps.proofs.laws.Listed.{into-by-cases}
 use Rattle.table.specs.declared.CapabilityEntry.{CapabilityEntry}
 use Rattle.table.specs.declared.Got.{Got}
 use Rattle.table.specs.declared.Got.the-variants.{Entry, Nothing}
@@ -27,7 +28,7 @@ use Rattle.world.specs.Numbers.{numbersOf, registeredOf}
 use Rattle.world.specs.Sound.{states, Sound}
 use Rattle.world.specs.declared.Numbers.{Numbers}
 use Rattle.notification_calls.specs.Calls.{notifyOut, peekOut, drainOut, cleanupOut}
-use Rattle.revocation_calls.specs.Calls.{revokeOut, revokeCapabilityOut, revokeHeldOut, revokeBatchOut, intoArea, descendants, descendantsOut, reasonOut}
+use Rattle.revocation_calls.specs.Calls.{revokeOut, revokeCapabilityOut, revokeHeldOut, revokeBatchOut, descendants, descendantsOut, reasonOut}
 use Rattle.revocation_calls.specs.Revoking.{revoking, revokingToken, revokingHeld}
 use Rattle.revocation_calls.proofs.laws.RevokingWays.{revoking-by-cases, logging-by-cases, revoking-token-by-cases}
 use Rattle.revocation_laws.proofs.laws.Counted.{same-registered, same-registry}
@@ -204,10 +205,7 @@ listed-0 : (area : List ℕ) (l : WithArea) → l .reply .answer ≡ Done → Un
 listed-0 area l e = record { same-area = λ not-0. absurd (not-0 e); no-value = λ not-0. absurd (not-0 e) }
 
 listed-unchanged : (xs area : List ℕ) → UnchangedArea area (intoArea xs area)
-unfolding intoArea
-listed-unchanged xs area =
-    when-by-cases (UnchangedArea area) _ _ (ltb (length area) (length xs)) (λ short. refused-list area BadField)
-    (λ fits. listed-0 area _ refl)
+listed-unchanged xs area = into-by-cases xs area (UnchangedArea area) (λ short. refused-list area BadField) (λ fits. listed-0 area _ refl)
 
 pub reason-unchanged : (reason : ℕ) (area : List ℕ) → UnchangedArea area (reasonOut reason area)
 unfolding reasonOut

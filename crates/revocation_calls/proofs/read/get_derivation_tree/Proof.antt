@@ -12,13 +12,13 @@ use Rattle.base.specs.Written.{written}
 use Rattle.steps.proofs.Entering.{world-refusal, world-call, world-ready, world-sound}
 use Rattle.steps.proofs.Leaving.{area-is}
 use Rattle.steps.specs.Enter.{enteredWorld}
-use Rattle.steps.specs.Replies.{done, refusal}
+use Rattle.steps.specs.Replies.{done, refusal, intoArea}
 use Rattle.steps.specs.Steps.{placeIn}
 use Rattle.steps.specs.declared.Entered.{Entered}
 use Rattle.steps.specs.declared.Entered.the-variants.{Good}
 use Rattle.world.specs.Numbers.{registeredOf}
 use Rattle.world.specs.declared.Numbers.{Numbers}
-use Rattle.revocation_calls.specs.Calls.{descendants, intoArea, descendantsOut}
+use Rattle.revocation_calls.specs.Calls.{descendants, descendantsOut}
 use Rattle.revocation_calls.proofs.read.get_derivation_tree.Statement.{statement}
 use Rattle.revocation_calls.proofs.read.get_derivation_tree.Tie as tie
 

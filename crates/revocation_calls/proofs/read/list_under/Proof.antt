@@ -1,29 +1,28 @@
 -- The places under r are all of its descent but the first, r itself: where the area is long enough, their ids are written to it.
 use borrow.Author.Needs.{needs}
 use mathlib.Core.List.{List, [], _∷_}
-use mathlib.Core.Path.{_≡_, refl, sym, ap, ap₂, _∙_}
+use mathlib.Core.Path.{_≡_, refl, sym, ap, _∙_}
 use Prim.Native.Nat.{ℕ, zero, suc, _-_, _<_, _≤_}
 use native.Mathlib.Omega.{arith}
-use borrow.Author.Tests.{lt-ltb, le-ltb}
-use lib.Dec.{ltb}
+use borrow.Author.Tests.{lt-ltb}
 use lib.ListN.{length, take, drop, length-drop}
 use lib.Seq.{length-take-le, take-nil}
 use Rattle.answers.specs.declared.Answer.the-variants.{BadField}
-use Rattle.base.specs.Choose.{when-yes, when-no}
 use Rattle.base.specs.Written.{written}
 use Rattle.registry.specs.Children.{idsAt}
 use Rattle.registry.specs.ChildrenLaws.{ids-at-length}
 use Rattle.registry.specs.Descent.{descent}
 use Rattle.registry.specs.DescentLaws.{descent-first}
 use Rattle.registry.specs.PlaceLists.{AllBelow, all-below-more, all-below-later}
+use Rattle.steps.proofs.laws.Listed.{into-short, into-fits}
 use Rattle.steps.proofs.laws.Ready.{ready-at}
 use Rattle.steps.proofs.Leaving.{area-is}
-use Rattle.steps.specs.Replies.{WithArea, done, refusal}
+use Rattle.steps.specs.Replies.{WithArea, done, refusal, intoArea}
 use Rattle.world.specs.Numbers.{registeredOf}
 use Rattle.world.specs.Regions.{registry, view}
 use Rattle.world.specs.Sound.{SoundAt}
 use Rattle.world.specs.declared.Numbers.{Numbers}
-use Rattle.revocation_calls.specs.Calls.{descendants, intoArea}
+use Rattle.revocation_calls.specs.Calls.{descendants}
 use Rattle.revocation_calls.proofs.read.list_under.Statement.{statement}
 use Rattle.revocation_calls.proofs.read.list_under.Tie as tie
 
@@ -80,15 +79,13 @@ module _ (d : Numbers) (mem : List ℕ) (r : ℕ) (order : List ℕ) (count : �
 
   too-short : (area : List ℕ) → length area < count - 1
       → intoArea (descendants d mem r) area ≡ record { reply = refusal BadField; area = area }
-  unfolding intoArea
-  too-short area l = when-yes _ _ _ (ap (ltb (length area)) how-many ∙ lt-ltb (length area) (count - 1) l)
+  too-short area l = into-short (descendants d mem r) area (count - 1) how-many l
 
   lists : (area : List ℕ) → count - 1 ≤ length area
       → intoArea (descendants d mem r) area ≡ record { reply = done (count - 1); area = written (idsAt (view d registry mem) under) area }
-  unfolding intoArea
   lists area l =
-      when-no _ _ _ (ap (ltb (length area)) how-many ∙ le-ltb (length area) (count - 1) l)
-      ∙ ap₂ {C = WithArea} (λ n xs. record { reply = done n; area = written xs area }) how-many is-under
+      into-fits (descendants d mem r) area (count - 1) how-many l
+      ∙ ap {B = WithArea} (λ xs. record { reply = done (count - 1); area = written xs area }) is-under
 
 descend-requires : tie.Need-descend-requires
 descend-requires c κs =

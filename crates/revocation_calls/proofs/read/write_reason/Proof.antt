@@ -4,7 +4,6 @@ use mathlib.Core.List.{List}
 use mathlib.Core.Path.{_≡_, refl, sym, ap, _∙_}
 use Prim.Native.Nat.{ℕ, _<_, _≤_}
 use borrow.Author.Tests.{lt-ltb, le-ltb}
-use lib.Dec.{ltb}
 use lib.ListN.{length}
 use Rattle.answers.specs.declared.Answer.the-variants.{BadField}
 use Rattle.base.specs.Choose.{when-yes, when-no}
@@ -12,8 +11,9 @@ use Rattle.base.specs.Written.{written}
 use Rattle.revocation.specs.Reason.{reasonOf, nameOf}
 use Rattle.revocation.specs.declared.RevocationReason.{RevocationReason}
 use Rattle.steps.proofs.Leaving.{area-is}
-use Rattle.steps.specs.Replies.{WithArea, done, refusal}
-use Rattle.revocation_calls.specs.Calls.{intoArea, reasonOut}
+use Rattle.steps.proofs.laws.Listed.{into-short, into-fits}
+use Rattle.steps.specs.Replies.{WithArea, done, refusal, intoArea}
+use Rattle.revocation_calls.specs.Calls.{reasonOut}
 use Rattle.revocation_calls.proofs.read.write_reason.Statement.{statement}
 use Rattle.revocation_calls.proofs.read.write_reason.Tie as tie
 
@@ -30,16 +30,13 @@ module _ (number : ℕ) (area : List ℕ) where
       named = when-no _ _ _ (le-ltb 3 number small) ∙ ap (λ reason. intoArea (nameOf reason) area) (sym is)
 
       too-short : length area < n → reasonOut number area ≡ record { reply = refusal BadField; area = area }
-      unfolding intoArea
-      too-short l = named ∙ when-yes _ _ _ (ap (ltb (length area)) (sym counted) ∙ lt-ltb (length area) n l)
+      too-short l = named ∙ into-short (nameOf reason) area n (sym counted) l
 
       writes : n ≤ length area → (r : ℕ) → r ≡ length (nameOf reason)
           → reasonOut number area ≡ record { reply = done r; area = written (nameOf reason) area }
-      unfolding intoArea
       writes l r told =
-          named
-          ∙ when-no _ _ _ (ap (ltb (length area)) (sym counted) ∙ le-ltb (length area) n l)
-          ∙ ap {B = WithArea} (λ n. record { reply = done n; area = written (nameOf reason) area }) (sym told)
+          named ∙ into-fits (nameOf reason) area n (sym counted) l
+          ∙ ap {B = WithArea} (λ n. record { reply = done n; area = written (nameOf reason) area }) (counted ∙ sym told)
 
 returns : tie.Need-returns
 returns c = area-is (c .refusal .ensures) refl (no-reason _ _ (c .before .if1 .taken))
