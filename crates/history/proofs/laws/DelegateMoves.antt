@@ -13,10 +13,10 @@ use Rattle.base.specs.Below.{one}
 use Rattle.delegation_calls.proofs.Offering.{offered-by-lookups}
 use Rattle.delegation_calls.specs.Delegation.{delegateOut}
 use Rattle.manager_laws.proofs.laws.Delegated as delegate
+use Rattle.manager_laws.proofs.laws.DelegateTold.{delegate-undone}
 use Rattle.manager_laws.proofs.laws.Recording.{withList, recording}
 use Rattle.manager_laws.proofs.laws.Roomed.{parentIn, roomed, roomed-by-cases}
 use Rattle.manager_laws.proofs.laws.StepsKept.{parent-registered, registered-kept}
-use Rattle.manager_laws.proofs.laws.Unchanged.{delegate-undone}
 use Rattle.space.proofs.laws.Insert.{Accepts}
 use Rattle.steps.specs.Replies.{Left}
 use Rattle.steps.specs.Steps.{spaceOf, lookupStep, insertStep, takeStep, objects, addStep}

@@ -14,15 +14,12 @@ use Rattle.steps.specs.Replies.{Left}
 use Rattle.steps.specs.Steps.{spaceOf, takenId}
 use Rattle.steps.specs.declared.Reply.{Reply}
 use Rattle.steps.specs.declared.Taken.the-variants.{Exhausted}
-use Rattle.steps.proofs.laws.Cases.{stated}
+use Rattle.steps.proofs.laws.Cases.{answerOf, stated}
 use Rattle.steps.proofs.laws.Told.{Told}
 use Rattle.world.specs.Numbers.{numbersOf, registeredOf}
 use Rattle.world.specs.Sound.{Sound}
 use Rattle.manager_calls.specs.Calls.{createOut}
 use Rattle.manager_laws.proofs.laws.Created as create
-
-abbrev answerOf : Left Reply → Answer
-answerOf out = out .reply .answer
 
 module _ (mem : List ℕ) (s object : ℕ) (valid : Bool) (cap-type rights : ℕ) where
   abbrev answer : Answer

@@ -1,10 +1,11 @@
 -- When each answer of delegate is given: 26 exactly on memory that is not sound, 20 exactly on a sound one where either space number is S
--- or more, and 1, 6, 10, 9, 3, 22, 4 and 0 exactly in their stated cases.
+-- or more, and 1, 6, 10, 9, 3, 22, 4 and 0 exactly in their stated cases. And what each refusal leaves: its value is 0 and it changes
+-- nothing, except: a lookup stays counted; a collection stays done; 4 leaves the parent a list; an id that was taken is recycled.
 use mathlib.Core.Bool.{Bool, true, false}
 use mathlib.Core.List.{List}
-use mathlib.Core.Logic.{_↔_, _⊎_, inl, inr, ⊎-elim, by-cases}
-use mathlib.Core.Path.{_≡_, sym, ap, subst, _∙_}
-use Prim.Native.Nat.{ℕ, _^_, _≤_, _<_}
+use mathlib.Core.Logic.{_↔_, _≢_, _⊎_, inl, inr, ⊎-elim, by-cases}
+use mathlib.Core.Path.{_≡_, refl, sym, ap, subst, _∙_}
+use Prim.Native.Nat.{ℕ, suc, _^_, _≤_, _<_}
 use native.Mathlib.Decide.{decLt}
 use native.Mathlib.Omega.{arith}
 use lib.Dec.{eqb}
@@ -13,10 +14,11 @@ use Rattle.answers.specs.declared.Answer.{Answer}
 use Rattle.answers.specs.declared.Answer.the-variants.{Done, InvalidCapability, CapabilityRevoked, OutOfMemory, PermissionDenied, IdExhausted, QuotaExceeded, BadSpace, RegistryFull, BadWorld}
 use Rattle.space.proofs.laws.Insert.{Accepts}
 use Rattle.steps.specs.Replies.{Left}
-use Rattle.steps.specs.Steps.{spaceOf, takenId, childrenOf}
+use Rattle.steps.specs.Steps.{spaceOf, lookupStep, takenId, objects, childrenOf}
 use Rattle.steps.specs.declared.Reply.{Reply}
 use Rattle.steps.specs.declared.Taken.the-variants.{Exhausted}
-use Rattle.steps.proofs.laws.Cases.{stated}
+use Rattle.steps.proofs.laws.Cases.{answerOf, stated}
+use Rattle.steps.proofs.laws.Taking.{none-taken}
 use Rattle.table.specs.declared.Got.{Got}
 use Rattle.table.specs.declared.Got.the-variants.{Entry, Nothing}
 use Rattle.token.specs.Rights.{holds}
@@ -28,16 +30,15 @@ use Rattle.world.specs.declared.Numbers.{Numbers}
 use Rattle.delegation_calls.specs.Delegation.{delegateOut}
 use Rattle.manager_calls.specs.Tokens.{current}
 use Rattle.manager_laws.proofs.laws.Delegated as delegate
-
-abbrev answerOf : Left Reply → Answer
-answerOf out = out .reply .answer
+use Rattle.manager_laws.proofs.laws.Recording.{withList, recording}
+use Rattle.manager_laws.proofs.laws.Undone.{Undone, registering-undone}
 
 module _ (mem : List ℕ) (token source target rights : ℕ) where
   abbrev d : Numbers
   d = numbersOf mem
 
-  abbrev answer : Answer
-  answer = delegateOut mem token source target rights .reply .answer
+  abbrev out : Left Reply
+  out = delegateOut mem token source target rights
 
   -- How far the call comes.
   abbrev Entered : Type 0
@@ -107,10 +108,10 @@ module _ (mem : List ℕ) (token source target rights : ℕ) where
   abbrev outOf : Way → Left Reply
   outOf w = delegate.outOf mem token source target rights w
 
-  answers : (w : Way) → answer ≡ answerOf (outOf w)
+  answers : (w : Way) → answerOf out ≡ answerOf (outOf w)
   answers w = ap answerOf (delegate.goes mem token source target rights w)
 
-  in-case : (a : Answer) → answer ≡ a → Case (numberOf a)
+  in-case : (a : Answer) → answerOf out ≡ a → Case (numberOf a)
   in-case a e = subst (λ a. Case (numberOf a)) (sym (answers way) ∙ e) (go way)
     where
       way : Way
@@ -139,7 +140,7 @@ module _ (mem : List ℕ) (token source target rights : ℕ) where
       ↔ (Sound mem × ((numbersOf mem .spaces ≤ source) ⊎ (numbersOf mem .spaces ≤ target)))
   delegate-told-20 = (in-case BadSpace, λ (sound, far). ⊎-elim (λ far. answers (delegate.bad-source sound far)) (second sound) far)
     where
-      second : Sound mem → numbersOf mem .spaces ≤ target → answer ≡ BadSpace
+      second : Sound mem → numbersOf mem .spaces ≤ target → answerOf out ≡ BadSpace
       second sound far =
           by-cases (decLt source (d .spaces))
           (λ there. answers (delegate.bad-target sound there far))
@@ -189,3 +190,89 @@ module _ (mem : List ℕ) (token source target rights : ℕ) where
     in-case Done,
     ⊎-elim (λ (g, is). answers (delegate.reused g is)) (λ (g, (room, takes)). answers (delegate.accepted g room takes)),
   )
+
+  -- ---- what a refusal leaves
+
+  pub delegate-value :
+      delegateOut mem token source target rights .reply .answer ≢ Done → delegateOut mem token source target rights .reply .value ≡ 0
+  delegate-value =
+      delegate.delegate-by-ways mem token source target rights (λ (out : Left Reply). answerOf out ≢ Done → out .reply .value ≡ 0)
+      (λ after a some not-0. refl) (λ g held not-0. absurd (not-0 refl)) (λ g room a not-0. absurd (not-0 refl))
+
+  -- The memory that a way leaves, and that of an answer by the way that its case names.
+  leaves : (w : Way) → delegateOut mem token source target rights .memory ≡ outOf w .memory
+  leaves w = ap (λ (out : Left Reply). out .memory) (delegate.goes mem token source target rights w)
+
+  pub delegate-26-unchanged :
+      delegateOut mem token source target rights .reply .answer ≡ BadWorld → delegateOut mem token source target rights .memory ≡ mem
+  delegate-26-unchanged e = leaves (delegate.bad-world (in-case BadWorld e))
+
+  pub delegate-20-unchanged :
+      delegateOut mem token source target rights .reply .answer ≡ BadSpace → delegateOut mem token source target rights .memory ≡ mem
+  delegate-20-unchanged e =
+      let (sound, far) = in-case BadSpace e in
+      by-cases (decLt source (d .spaces))
+      (λ there. leaves (delegate.bad-target sound there (⊎-elim (λ f. absurd (omega arith)) (λ f. f) far)))
+      (λ none. leaves (delegate.bad-source sound (omega arith)))
+
+  -- 1 where the source does not hold the token, and 6: the lookup is counted.
+  pub delegate-absent :
+      Entered → got ≡ Nothing → delegateOut mem token source target rights .memory ≡ lookupStep (numbersOf mem) source token mem
+  delegate-absent entered none = leaves (delegate.absent entered none)
+
+  pub delegate-6 :
+      delegateOut mem token source target rights .reply .answer ≡ PermissionDenied
+      → delegateOut mem token source target rights .memory ≡ lookupStep (numbersOf mem) source token mem
+  delegate-6 e = let (entered, (entry, (found, none))) = in-case PermissionDenied e in leaves (delegate.ungranted entered entry found none)
+
+  -- 10 and 9: the lookups are counted, and the collection done where there was one.
+  pub delegate-10 :
+      delegateOut mem token source target rights .reply .answer ≡ QuotaExceeded
+      → (g : Granted) × (delegateOut mem token source target rights .memory ≡ base g)
+  delegate-10 e = let (g, (none, many)) = in-case QuotaExceeded e in (g, leaves (delegate.crowded g none many))
+
+  pub delegate-9 :
+      delegateOut mem token source target rights .reply .answer ≡ IdExhausted
+      → (a : Asked) × (delegateOut mem token source target rights .memory ≡ base (a .granted))
+  delegate-9 e =
+      let (a, is) = in-case IdExhausted e in
+      (a, leaves (delegate.exhausted a is) ∙ none-taken d (base (a .granted)) is)
+
+  -- 1 where the parent is not registered, 3 and 22: besides, the id is recycled.
+  abbrev back : Took → List ℕ
+  back t = delegate.back mem token source target rights t
+
+  pub delegate-orphaned :
+      (t : Took) → registeredOf (from t) ≤ parent t → delegateOut mem token source target rights .memory ≡ back t
+  delegate-orphaned t outside = leaves (delegate.orphaned t outside)
+
+  pub delegate-3 :
+      delegateOut mem token source target rights .reply .answer ≡ CapabilityRevoked
+      → (t : Took) × (delegateOut mem token source target rights .memory ≡ back t)
+  delegate-3 e = let (t, (inside, is)) = in-case CapabilityRevoked e in (t, leaves (delegate.stale t inside is))
+
+  pub delegate-22 :
+      delegateOut mem token source target rights .reply .answer ≡ RegistryFull
+      → (g : Good) × (delegateOut mem token source target rights .memory ≡ back (g .took))
+  delegate-22 e = let (g, over) = in-case RegistryFull e in (g, leaves (delegate.full g over))
+
+  -- 4: the id is recycled, and nothing else differs from the memory in which the parent has a list.
+  pub delegate-undone :
+      (g : Good) (room : Room g) (none : ¬ Takes g)
+      → Undone (numbersOf mem) (withList mem token source target rights g) (g .took .id)
+      (delegate.outOf mem token source target rights (delegate.refused g room none) .memory)
+  delegate-undone g room none =
+      let t : Took = g .took in
+      registering-undone d _ (t .id) (objects d (from t) (parent t)) (suc (parent t)) (recording mem token source target rights g room)
+
+  pub delegate-4 :
+      delegateOut mem token source target rights .reply .answer ≡ OutOfMemory
+      → (g : Good)
+      × Undone (numbersOf mem) (withList mem token source target rights g) (g .took .id)
+      (delegateOut mem token source target rights .memory)
+  delegate-4 e =
+      let (g, (room, none)) = in-case OutOfMemory e in (
+        g,
+        subst (Undone d (withList mem token source target rights g) (g .took .id)) (sym (leaves (delegate.refused g room none)))
+            (delegate-undone g room none),
+      )

@@ -30,10 +30,11 @@ use Rattle.manager_calls.specs.Tokens.{tokenOf}
 use Rattle.manager_laws.proofs.laws.Ways.{deleted, delete-by-cases, check-by-cases}
 use Rattle.manager_laws.proofs.laws.Created as create
 use Rattle.manager_laws.proofs.laws.Delegated as delegate
+use Rattle.manager_laws.proofs.laws.DelegateTold.{delegate-undone}
 use Rattle.manager_laws.proofs.laws.Recording.{withList, recording}
 use Rattle.manager_laws.proofs.laws.Standing.{admitted-ids, created-stands, delegated-stands}
 use Rattle.manager_laws.proofs.laws.Undone.{Undone}
-use Rattle.manager_laws.proofs.laws.Unchanged.{create-undone, delegate-undone}
+use Rattle.manager_laws.proofs.laws.Unchanged.{create-undone}
 use Rattle.manager_laws.proofs.laws.Roomed.{roomed, roomed-by-cases}
 use Rattle.manager_laws.proofs.laws.SameIds.{SameIds, lookup-ids, list-ids, unregister-ids, collect-ids, count-ids}
 use Rattle.manager_laws.proofs.laws.Sound.{create-keeps, delegate-keeps, delete-keeps, check-keeps}
