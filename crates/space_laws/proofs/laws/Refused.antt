@@ -37,6 +37,7 @@ use Rattle.space_calls.specs.Replies.{foundReply, heldReply, noEntry, entryRepl
 use Rattle.space_calls.specs.declared.EntryReply.{EntryReply}
 use Rattle.steps.specs.declared.Reply.{Reply}
 use Rattle.space_calls.specs.declared.FactsReply.{FactsReply}
+use Rattle.steps.proofs.laws.Cases.{answerOf}
 use Rattle.steps.proofs.laws.Entered.{space-by-cases}
 use Rattle.steps.proofs.laws.Told.{Told, Inner, told, world-told, inner, inner-0}
 
@@ -68,9 +69,6 @@ inner-taken (Id id) = inner-0
 inner-taken Exhausted = inner IdExhausted refl refl
 
 -- ---- call by call
-
-abbrev answerOf : Left Reply → Answer
-answerOf out = out .reply .answer
 
 module _ (mem : List ℕ) (s : ℕ) where
   abbrev d : Numbers

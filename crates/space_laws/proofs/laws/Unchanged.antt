@@ -23,7 +23,7 @@ use Rattle.steps.specs.declared.Taken.{Taken}
 use Rattle.steps.specs.declared.Taken.the-variants.{Id, Exhausted}
 use Rattle.steps.proofs.ChangingEntries.{refused-insert, remove-absent}
 use Rattle.steps.proofs.laws.TakeStep.{taken-free}
-use Rattle.steps.proofs.laws.Taking.{take-by-cases}
+use Rattle.steps.proofs.laws.Taking.{take-by-cases, none-taken}
 use Rattle.table.specs.Walk.{gotAt}
 use Rattle.table.specs.declared.CapabilityEntry.{CapabilityEntry}
 use Rattle.table.specs.declared.Found.{Found}
@@ -208,13 +208,6 @@ module _ (mem : List ℕ) where
       after : List ℕ
       after = takeStep d mem
 
-      none-taken : takenId d mem ≡ Exhausted → after ≡ mem
-      none-taken =
-          take-by-cases d mem (λ t after. t ≡ Exhausted → after ≡ mem)
-          (λ some e. let z : _≡_ {A = ℕ} 0 1 = cc in absurd (omega arith))
-          (λ none more e. let z : _≡_ {A = ℕ} 0 1 = cc in absurd (omega arith))
-          (λ e. refl)
-
       not-12 : (e : CapabilityEntry) → insertOut (spaceOf d s after) e .answer ≢ SpaceIds
       not-12 e =
           insert-by-cases (spaceOf d s after) e (λ (o : InsertOut). o .answer ≢ SpaceIds)
@@ -235,4 +228,4 @@ module _ (mem : List ℕ) where
       taken sound (Id id) is e =
           absurd
           (tokened id (generationOf (spaceOf d s after)) (taken-free d mem sound id is .fits) (ltb (2 ^ 48 - 1) id) refl e)
-      taken sound Exhausted is e = none-taken is
+      taken sound Exhausted is e = none-taken d mem is
