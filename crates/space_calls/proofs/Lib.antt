@@ -1,2 +1,3 @@
 -- What the proofs of `space_calls` share.
 pub mod Replying
+pub mod Making
