@@ -1,4 +1,4 @@
--- `stonespry_is_revoked` meets its contract: the call's reply, seen so.
+-- `stonespry_is_revoked` meets its contract: the call's reply, seen by `answered`.
 use borrow.Author.Needs.{needs}
 use Rattle.host.specs.Replies.{callAnswer}
 use Rattle.host.specs.KnownLaws.{of-known}
