@@ -1,7 +1,7 @@
 -- Entered, an id too large is refused, then an area too short; else the children are written to it.
 use borrow.Author.Needs.{needs}
 use mathlib.Core.List.{List}
-use mathlib.Core.Path.{_≡_, refl, sym, ap, _∙_}
+use mathlib.Core.Path.{_≡_, refl, sym, _∙_}
 use Prim.Native.Nat.{ℕ, _<_, _≤_}
 use native.Mathlib.Omega.{arith}
 use lib.ListN.{length}
@@ -13,7 +13,7 @@ use Rattle.steps.proofs.Entering.{world-ready, world-enters}
 use Rattle.steps.proofs.Leaving.{area-is}
 use Rattle.steps.proofs.laws.Cases.{chooses}
 use Rattle.steps.proofs.laws.Listed.{into-short, into-fits}
-use Rattle.steps.specs.Replies.{WithArea, done, refusal, intoArea}
+use Rattle.steps.specs.Replies.{done, refusal, intoArea}
 use Rattle.steps.specs.Steps.{placeIn, childrenOf}
 use Rattle.steps.specs.declared.Reply.{Reply}
 use Rattle.world.specs.Numbers.{registeredOf}
