@@ -18,7 +18,6 @@ use Rattle.table.specs.Slots.{idOf}
 use Rattle.table.specs.declared.CapabilityEntry.{CapabilityEntry}
 use Rattle.table.specs.declared.Found.the-variants.{At, Absent}
 use Rattle.world.specs.Numbers.{registeredOf}
-use Rattle.world.specs.Regions.{space}
 use Rattle.world.specs.declared.Numbers.{Numbers}
 use Rattle.manager_calls.specs.Admit.{admitted}
 

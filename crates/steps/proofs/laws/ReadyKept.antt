@@ -1,5 +1,5 @@
--- Every step keeps what the steps ask of a memory, from that and from ranges alone, where the memory need not be sound; and what each
--- leaves of the words of the head.
+-- The steps after which a call goes on keep what the next step asks of a memory, from that and from ranges alone, where the memory need not
+-- be sound; and what each leaves of the words of the head.
 use mathlib.Core.Path.{_≡_, refl, sym, _∙_}
 use mathlib.Core.Logic.{_≢_, by-cases}
 use mathlib.Core.Bool.{Bool, true, false}
@@ -12,18 +12,16 @@ use lib.ListN.{length, getD, set}
 use Rattle.answers.specs.Number.{numberOf}
 use Rattle.base.specs.Choose.{pick}
 use Rattle.registry.specs.CollectionLaws.{collects}
-use Rattle.registry.specs.HoldersLaws.{HoldersOnly, held-only, released-only, held-all-only, released-all-only}
-use Rattle.registry.specs.Ids.{firstTaken, recycledWith}
-use Rattle.registry.specs.IdsLaws.{length-taken, length-recycled-with}
+use Rattle.registry.specs.HoldersLaws.{HoldersOnly, held-only}
+use Rattle.registry.specs.Ids.{firstTaken}
+use Rattle.registry.specs.IdsLaws.{length-taken}
 use Rattle.registry.specs.Registering.{registered, listGiven, unregistered, collected}
 use Rattle.registry.specs.RegisteringLaws.{length-registered, list-given-only}
 use Rattle.registry.specs.UnregisteringLaws.{length-unregistered}
-use Rattle.space.specs.Change.{insertOut, removedToken, cleared, nextGeneration}
-use Rattle.space.specs.Copy.{copiedSpace}
-use Rattle.space.specs.Ids.{entryIds}
-use Rattle.space.specs.Lookup.{lookedUp, counted}
+use Rattle.space.specs.Change.{insertOut}
+use Rattle.space.specs.Lookup.{counted}
 use Rattle.space.specs.Sound.{SpaceOf}
-use Rattle.space.proofs.laws.Kept.{lookup-keeps, insert-keeps, remove-keeps, clear-keeps, next-keeps, copy-keeps}
+use Rattle.space.proofs.laws.Kept.{lookup-keeps, insert-keeps}
 use Rattle.table.specs.Slots.{idOf}
 use Rattle.table.specs.declared.CapabilityEntry.{CapabilityEntry}
 use Rattle.world.specs.Numbers.{nextOf, registeredOf, recycledOf}
@@ -32,7 +30,7 @@ use Rattle.world.specs.Sound.{recycled}
 use Rattle.world.specs.Views.{Change, length-kept, view-same, head-kept, registry-words}
 use Rattle.world.specs.declared.Numbers.{Numbers}
 use Rattle.steps.specs.Ready.{Ready}
-use Rattle.steps.specs.Steps.{spaceOf, isEntry, lookupStep, nextStep, holdStep, releaseStep, holdAllStep, releaseAllStep, insertStep, removeStep, clearStep, copyStep, takenId, takeStep, registerStep, listStep, unregisterStep, recycleStep, collectStep, addStep}
+use Rattle.steps.specs.Steps.{spaceOf, lookupStep, holdStep, insertStep, takenId, takeStep, registerStep, listStep, unregisterStep, collectStep, addStep}
 use Rattle.steps.specs.declared.Taken.{Taken}
 use Rattle.steps.specs.declared.Taken.the-variants.{Id, Exhausted}
 use Rattle.steps.proofs.ChangingEntries.{still-fits}
@@ -154,10 +152,6 @@ module _ (d : Numbers) (mem : List ℕ) (ready : Ready d mem) (s : ℕ) (valid :
   unfolding lookupStep
   lookup-stays token = space-stays d mem ready s valid (λ sp. counted sp token) (lookup-keeps (d .most) sp of-space token)
 
-  pub next-stays : Stays d mem (nextStep d s mem)
-  unfolding nextStep
-  next-stays = space-stays d mem ready s valid nextGeneration (next-keeps (d .most) sp of-space)
-
   pub insert-stays : (e : CapabilityEntry) → e .rights .0 < 2 ^ 32 → Stays d mem (insertStep d s e mem)
   unfolding insertStep holdStep
   insert-stays e rights = go (eqb (numberOf (insertOut sp e .answer)) 0)
@@ -173,39 +167,6 @@ module _ (d : Numbers) (mem : List ℕ) (ready : Ready d mem) (s : ℕ) (valid :
           holders-stay d mem ready after _ came
           (λ rg long. held-only (d .places) (registeredOf mem) rg (ready .registered-fit) long (idOf e))
       go false = came
-
-  pub remove-stays : (token : ℕ) → Stays d mem (removeStep d s token mem)
-  unfolding removeStep releaseStep
-  remove-stays token = go (isEntry (lookedUp sp token .got))
-    where
-      after : List ℕ
-      after = onRegion d (space s) (λ sp. removedToken sp token) mem
-
-      gone : Stays d mem after
-      gone = space-stays d mem ready s valid (λ sp. removedToken sp token) (remove-keeps (d .most) sp of-space token)
-
-      go : (b : Bool) → Stays d mem (pick b (releaseStep d (registeredOf mem) (token % 2 ^ 48) after) after)
-      go true =
-          holders-stay d mem ready after _ gone
-          (λ rg long. released-only (d .places) (registeredOf mem) rg (ready .registered-fit) long (token % 2 ^ 48))
-      go false = gone
-
-  pub clear-stays : Stays d mem (clearStep d s mem)
-  unfolding clearStep releaseAllStep
-  clear-stays =
-      holders-stay d mem ready _ _ (space-stays d mem ready s valid cleared (clear-keeps (d .most) sp of-space))
-      (λ rg long. released-all-only (d .places) (registeredOf mem) (ready .registered-fit) (entryIds sp) rg long)
-
-  pub copy-stays : (source : ℕ) → source < d .spaces → Stays d mem (copyStep d s source mem)
-  unfolding copyStep holdAllStep releaseAllStep
-  copy-stays source from =
-      let src : List ℕ = spaceOf d source mem in
-      let came =
-      holders-stay d mem ready _ _
-      (space-stays d mem ready s valid (copiedSpace src) (copy-keeps (d .most) src sp (ready .spaces source from) of-space))
-      (λ rg long. held-all-only (d .places) (registeredOf mem) (ready .registered-fit) (entryIds src) rg long) in
-      holders-stay d mem ready _ _ came
-      (λ rg long. released-all-only (d .places) (registeredOf mem) (ready .registered-fit) (entryIds sp) rg long)
 
   pub ready-lookup : (token : ℕ) → Ready d (lookupStep d s token mem)
   ready-lookup token = lookup-stays token .ready
@@ -290,13 +251,6 @@ module _ (d : Numbers) (mem : List ℕ) (ready : Ready d mem) where
         registry-and-word-leaves d mem ready (unregistered (d .places) n k)
         (length-unregistered (d .places) n k rg inside (ready .registered-fit) long) 11 (n - 1) (omega arith) (omega arith)
         (λ e. omega (arith, ready .registered-fit)) (λ e. omega arith)
-
-  module _ (id : ℕ) (room : recycledOf mem ≤ d .places) where
-    pub recycle-leaves : Leaves d 12 (recycledOf mem + 1) mem (recycleStep d id mem)
-    unfolding recycleStep
-    recycle-leaves =
-        registry-and-word-leaves d mem ready (recycledWith (d .places) m id) (length-recycled-with (d .places) m id rg room long)
-        12 (m + 1) (omega arith) (omega arith) (λ e. omega arith) (λ e. omega arith)
 
   module _ (p : ℕ) where
     -- No more are left than there were; p need not be registered.

@@ -1,6 +1,5 @@
 -- The slots of the largest table are the table's own count.
 use native.Mathlib.Omega.{arith}
-use borrow.Author.Needs.{needs}
 use Rattle.world.specs.Regions.{widthOf}
 use Rattle.world.proofs.regions.width.Statement.{statement}
 use Rattle.world.proofs.regions.width.Tie as tie
