@@ -19,7 +19,7 @@ use Rattle.steps.specs.Enter.{onWorld}
 use Rattle.steps.specs.Replies.{Left, WithArea, refuse, intoArea}
 use Rattle.steps.specs.Steps.{spaceOf, lookupStep, placeIn}
 use Rattle.steps.specs.declared.Reply.{Reply}
-use Rattle.steps.proofs.laws.Cases.{when-by-cases, given}
+use Rattle.steps.proofs.laws.Cases.{answerOf, when-by-cases, given}
 use Rattle.steps.proofs.laws.Entered.{world-by-cases}
 use Rattle.steps.proofs.laws.Listed.{into-by-cases}
 use Rattle.steps.proofs.laws.Told.{Told, Inner, told, world-told, inner, inner-0}
@@ -38,9 +38,6 @@ use Rattle.revocation_laws.proofs.laws.Ways.{Own, own-not, revoking-own
 use Rattle.revocation_laws.proofs.laws.NoticeWays.{drain-peeks}
 
 -- ---- no answer of a call's own is either
-
-abbrev answerOf : Left Reply → Answer
-answerOf out = out .reply .answer
 
 abbrev Fine : Left Reply → Type 0
 Fine out = Inner (out .reply .answer)

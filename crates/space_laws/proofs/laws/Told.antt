@@ -19,7 +19,7 @@ use Rattle.steps.specs.Steps.{spaceOf, takenId, takeStep, newEntry}
 use Rattle.steps.specs.declared.Reply.{Reply}
 use Rattle.steps.specs.declared.Taken.{Taken}
 use Rattle.steps.specs.declared.Taken.the-variants.{Id, Exhausted}
-use Rattle.steps.proofs.laws.Cases.{given, not-given, pick-by-cases, when-by-cases, unless-below}
+use Rattle.steps.proofs.laws.Cases.{answerOf, given, not-given, pick-by-cases, when-by-cases, unless-below}
 use Rattle.steps.proofs.laws.Entered.{world-by-cases}
 use Rattle.steps.proofs.laws.Exhausted.{exhausted-exactly}
 use Rattle.steps.proofs.laws.OnlyIds.{take-step}
@@ -43,9 +43,6 @@ use Rattle.space_calls.specs.declared.EntryReply.{EntryReply}
 use Rattle.space_calls.specs.declared.FactsReply.{FactsReply}
 use Rattle.space_laws.proofs.laws.Finding.{HasToken, HasId, token-by-cases, id-by-cases, nth-by-cases}
 use Rattle.space_laws.proofs.laws.Shapes.{On, Taking, told-on, told-0, Finds, finds-it, finds-none, FindsBelow, finds-over, below-it, below-none, Inserts, inserts, Creates, creates-none, creates-of}
-
-abbrev answerOf : Left Reply → Answer
-answerOf out = out .reply .answer
 
 abbrev entryAnswer : EntryReply → Answer
 entryAnswer r = r .answer
