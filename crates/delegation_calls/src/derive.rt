@@ -23,6 +23,8 @@ use steps::replies::refusal;
 use token::CapabilityToken;
 use token::Rights;
 use world::Numbers;
+use world::head::DELEGATED;
+use world::head::REGISTERED;
 
 // The child is registered with its parent's object, recorded, inserted.
 fn derive_with(
@@ -50,7 +52,7 @@ fn derive_with(
     give_list(mem, d, p);
     register(mem, d, id, object, (p + 1) as u64);
     let child = token_of(id, token.cap_type(), rights);
-    admit(mem, d, target, id, child, object, rights, 8)
+    admit(mem, d, target, id, child, object, rights, DELEGATED)
 }
 
 // The id was taken: the parent is looked at.
@@ -65,7 +67,7 @@ fn derive_taken(
     requires { ⌜ Ready d (now mem) × (target < d .spaces) × (recycledOf (now mem) ≤ d .places) ⌝ }
     ensures { λ r. ⌜ record { reply = r; memory = now (mem .exit) } ≡ derived d target (token .0) (rights .0) (now (mem .entry)) (Id id) ⌝ }
 {
-    let n = mem[11] as usize;
+    let n = mem[REGISTERED] as usize;
     let p = place_of(mem, d, token.id());
     if n <= p {
         return give_back(mem, d, id, Answer::InvalidCapability);

@@ -16,6 +16,7 @@ use table::Got;
 use token::CapabilityToken;
 use token::Rights;
 use world::Numbers;
+use world::head::REGISTERED;
 
 // The token of a child that the target holds already, if there is one.
 pub enum Offer {
@@ -88,7 +89,7 @@ pub fn find_child(
         × (now (mem .exit) ≡ offered d target (token .0) (rights .0) (now (mem .entry)) .memory)
         ⌝ }
 {
-    let n = mem[11] as usize;
+    let n = mem[REGISTERED] as usize;
     let p = place_of(mem, d, token.id());
     let mut k = 0;
     while k < n {

@@ -17,6 +17,7 @@ use table::CapabilityEntry;
 use token::CapabilityToken;
 use token::Rights;
 use world::Numbers;
+use world::head::REGISTERED;
 
 // An id that was taken goes to the recycled set.
 pub fn give_back(mem: &mut [u64], d: Numbers, id: u64, answer: Answer) -> Reply
@@ -35,7 +36,7 @@ fn take_back(mem: &mut [u64], d: Numbers, id: u64) -> Reply
         ≡ refuse (recycleStep d id (unregisterStep d (registeredOf (now (mem .entry)) - 1) (now (mem .entry)))) Answer.OutOfMemory
         ⌝ }
 {
-    let last = mem[11] as usize - 1;
+    let last = mem[REGISTERED] as usize - 1;
     unregister(mem, d, last);
     give_back(mem, d, id, Answer::OutOfMemory)
 }

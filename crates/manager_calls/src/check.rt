@@ -19,6 +19,7 @@ use table::Got;
 use token::CapabilityToken;
 use token::Rights;
 use world::Numbers;
+use world::head::REGISTERED;
 
 // Whether the token is registered, unrevoked, of its generation.
 fn valid_in(mem: &[u64], d: Numbers, token: CapabilityToken) -> bool
@@ -26,7 +27,7 @@ fn valid_in(mem: &[u64], d: Numbers, token: CapabilityToken) -> bool
     ensures { λ r. ⌜ r ≡ validIn d (now (mem .entry)) (token .0) ⌝ }
 {
     let k = place_of(mem, d, token.id());
-    if k < mem[11] as usize {
+    if k < mem[REGISTERED] as usize {
         return is_current(mem, d, token, k);
     }
     false

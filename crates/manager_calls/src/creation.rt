@@ -18,6 +18,8 @@ use steps::registered::register;
 use steps::replies::refusal;
 use token::Rights;
 use world::Numbers;
+use world::head::CREATED;
+use world::head::REGISTERED;
 
 // The id that was taken is registered and its entry inserted.
 fn create_with(
@@ -35,12 +37,12 @@ fn create_with(
         ≡ created d s object «cap_type» (rights .0) (now (mem .entry)) (Id id)
         ⌝ }
 {
-    if d.places <= mem[11] as usize {
+    if d.places <= mem[REGISTERED] as usize {
         return give_back(mem, d, id, Answer::RegistryFull);
     }
     register(mem, d, id, object, 0);
     let token = token_of(id, cap_type, rights);
-    admit(mem, d, s, id, token, object, rights, 7)
+    admit(mem, d, s, id, token, object, rights, CREATED)
 }
 
 // The source's `create_capability`: the value is the token, the count the entries that its insert moved.

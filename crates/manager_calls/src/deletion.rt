@@ -17,6 +17,9 @@ use steps::replies::done;
 use steps::replies::refusal;
 use token::CapabilityToken;
 use world::Numbers;
+use world::head::DELETED;
+use world::head::RECYCLED;
+use world::head::REGISTERED;
 
 // The id of place k leaves and is recycled; the deletion is counted.
 fn delete_at(mem: &mut [u64], d: Numbers, k: usize, id: u64)
@@ -25,7 +28,7 @@ fn delete_at(mem: &mut [u64], d: Numbers, k: usize, id: u64)
 {
     unregister(mem, d, k);
     recycle(mem, d, id);
-    add(mem, 10, 1);
+    add(mem, DELETED, 1);
 }
 
 pub fn delete(mem: &mut [u64], token: CapabilityToken) -> Reply
@@ -36,10 +39,10 @@ pub fn delete(mem: &mut [u64], token: CapabilityToken) -> Reply
         Entered::Good(d) => {
             let id = token.id();
             let k = place_of(mem, d, id);
-            if mem[11] as usize <= k {
+            if mem[REGISTERED] as usize <= k {
                 return refusal(Answer::NotFound);
             }
-            if d.places < mem[12] as usize {
+            if d.places < mem[RECYCLED] as usize {
                 return refusal(Answer::RecycleFull);
             }
             delete_at(mem, d, k, id);

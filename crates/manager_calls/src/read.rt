@@ -12,6 +12,10 @@ use steps::enter::enter_world;
 use steps::registered;
 use steps::replies::done;
 use steps::replies::refusal;
+use world::head::CREATED;
+use world::head::DELEGATED;
+use world::head::DELETED;
+use world::head::REVOKED;
 
 fn no_stats(answer: Answer) -> StatsReply
     ensures { λ r. ⌜ r ≡ noStats answer ⌝ }
@@ -32,10 +36,10 @@ pub fn stats(mem: &[u64]) -> StatsReply
         Entered::Refused(answer) => no_stats(answer),
         Entered::Good(_) => StatsReply {
             answer: Answer::Done,
-            created: mem[7],
-            delegated: mem[8],
-            revoked: mem[9],
-            deleted: mem[10],
+            created: mem[CREATED],
+            delegated: mem[DELEGATED],
+            revoked: mem[REVOKED],
+            deleted: mem[DELETED],
         },
     }
 }

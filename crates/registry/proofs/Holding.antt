@@ -2,11 +2,11 @@
 use mathlib.Core.Path.{_≡_, sym, _∙_}
 use mathlib.Core.List.{List}
 use Prim.Native.Nat.{ℕ, _+_, _-_, _*_, _%_, _^_, _<_, _≤_}
-use native.Mathlib.Numerals.{add-one}
 use borrow.Author.Needs.{needs}
 use borrow.Author.Tests.{lt-ltb, le-ltb}
 use lib.ListN.{length, getD, set, drop, drop-of-length-le}
-use lib.Seq.{drop-cons, set-getD}
+use lib.Seq.{set-getD}
+use Rattle.base.specs.Rest.{drop-next}
 use Rattle.registry.specs.Words.{stateAt}
 use Rattle.registry.specs.Holders.{placeOf, oneMore, oneLess, onState, held, released, eachId}
 
@@ -52,7 +52,7 @@ module _ (change : ℕ → List ℕ → List ℕ) (j : ℕ) (ids rg ys : List �
   pub id-turn : (rg′ : List ℕ) → eachId change (drop j ids) rg ≡ ys → j < length ids → rg′ ≡ change (getD ids j 0) rg
       → eachId change (drop (j + 1) ids) rg′ ≡ ys
   unfolding eachId
-  id-turn rg′ e l h = rw (h, add-one) (rw (drop-cons ids j 0 l) at e)
+  id-turn rg′ e l h = rw h (rw (drop-next ids j l) at e)
 
   pub ids-done : eachId change (drop j ids) rg ≡ ys → length ids ≤ j → rg ≡ ys
   unfolding eachId

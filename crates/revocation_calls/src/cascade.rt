@@ -25,6 +25,9 @@ use steps::registered::state_at;
 use steps::replies::done;
 use steps::replies::refusal;
 use world::Numbers;
+use world::head::EPOCH;
+use world::head::LOGGED;
+use world::head::REVOKED;
 
 // The places that a cascade from place r revokes, to the front of `order`. Answers how many they are.
 fn cascade_places(mem: &[u64], d: Numbers, r: usize, order: &mut [u16]) -> usize
@@ -66,9 +69,9 @@ fn revoke_places(
         ⌝ }
 {
     mark(mem, d, order);
-    add(mem, 9, order.len());
+    add(mem, REVOKED, order.len());
     append_pairs(mem, d, pairs);
-    add(mem, 6, order.len());
+    add(mem, EPOCH, order.len());
     notify_all(mem, d, listed, &ids[1..], time);
 }
 
@@ -88,7 +91,7 @@ fn revoke_listed(
         ≡ carryingOut d (now (order .entry)) (now (ids .entry)) (now (pairs .entry)) time (now (listed .entry)) (now (mem .entry))
         ⌝ }
 {
-    if d.pairs < mem[13] as usize + pairs.len() {
+    if d.pairs < mem[LOGGED] as usize + pairs.len() {
         return refusal(Answer::LogFull);
     }
     if free_queues(mem, d) < queues_needed(mem, d, listed, order.len()) {

@@ -18,6 +18,8 @@ use steps::replies::done;
 use steps::replies::refusal;
 use token::CapabilityToken;
 use world::Numbers;
+use world::head::EPOCH;
+use world::head::REGISTERED;
 
 // Whether the log has the token's pair: 1 or 0.
 pub fn is_revoked(mem: &[u64], token: CapabilityToken) -> Reply
@@ -39,7 +41,7 @@ pub fn epoch(mem: &[u64]) -> Reply
 {
     match enter_world(mem) {
         Entered::Refused(answer) => refusal(answer),
-        Entered::Good(_) => done(mem[6]),
+        Entered::Good(_) => done(mem[EPOCH]),
     }
 }
 
@@ -71,7 +73,7 @@ pub fn get_derivation_tree(mem: &[u64], id: u64, area: &mut [u64]) -> Reply
                 return refusal(Answer::BadField);
             }
             let r = place_of(mem, d, id);
-            if r < mem[11] as usize {
+            if r < mem[REGISTERED] as usize {
                 return list_under(mem, d, r, area);
             }
             done(0)

@@ -26,6 +26,9 @@ use table::Got;
 use token::CapabilityToken;
 use token::Rights;
 use world::Numbers;
+use world::head::EPOCH;
+use world::head::LOGGED;
+use world::head::REGISTERED;
 
 // The token's pair joins the log if absent, and the epoch counts one: all there is to revoke of an id that is not registered.
 fn log_token(mem: &mut [u64], d: Numbers, token: CapabilityToken) -> Reply
@@ -34,11 +37,11 @@ fn log_token(mem: &mut [u64], d: Numbers, token: CapabilityToken) -> Reply
 {
     let mut pairs = [token.0 % 0x100_0000_0000_0000; 1];
     let absent = keep_absent(mem, d, &mut pairs, 1);
-    if d.pairs < mem[13] as usize + absent {
+    if d.pairs < mem[LOGGED] as usize + absent {
         return refusal(Answer::LogFull);
     }
     append_pairs(mem, d, &pairs[..absent]);
-    add(mem, 6, 1);
+    add(mem, EPOCH, 1);
     done(0)
 }
 
@@ -57,7 +60,7 @@ fn revoke_token(
         ⌝ }
 {
     let r = place_of(mem, d, token.id());
-    if r < mem[11] as usize {
+    if r < mem[REGISTERED] as usize {
         return revoke_at(mem, d, r, time, listed);
     }
     log_token(mem, d, token)
@@ -125,7 +128,7 @@ pub fn revoke(mem: &mut [u64], token: CapabilityToken, time: u64, listed: &[u64]
                 return refusal(Answer::BadField);
             }
             let r = place_of(mem, d, token.id());
-            if mem[11] as usize <= r {
+            if mem[REGISTERED] as usize <= r {
                 return refusal(Answer::InvalidCapability);
             }
             revoke_at(mem, d, r, time, listed)

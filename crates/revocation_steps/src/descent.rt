@@ -12,6 +12,7 @@ ghost use Rattle.world.specs.Numbers.{registeredOf};
 ghost use Rattle.world.specs.Regions.{registry, view, onRegion};
 ghost use Rattle.world.specs.Sound.{links};
 use world::Numbers;
+use world::head::REGISTERED;
 use world::regions::registry_at;
 
 // Place r and all places under it, breadth first, to the front of `order`. Answers how many they are.
@@ -26,7 +27,13 @@ pub fn descend(mem: &[u64], d: Numbers, r: usize, order: &mut [u16]) -> usize
 {
     let start = registry_at(d);
     let end = start + 5 * d.places + 1;
-    registry::descent::descend(&mem[start..end], d.places, mem[11] as usize, r, order)
+    registry::descent::descend(
+        &mem[start..end],
+        d.places,
+        mem[REGISTERED] as usize,
+        r,
+        order,
+    )
 }
 
 // Of the first `count` places of `order` those that are not revoked yet, to its front. Answers how many they are.

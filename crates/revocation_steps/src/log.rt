@@ -9,6 +9,7 @@ ghost use Rattle.world.specs.Numbers.{loggedOf};
 ghost use Rattle.world.specs.Sound.{logPairs};
 ghost use Rattle.revocation_steps.specs.Revocation.{logOf, logStep};
 use world::Numbers;
+use world::head::LOGGED;
 use world::regions::log_at;
 
 // Whether the log has the pair.
@@ -18,7 +19,7 @@ pub fn has_pair(mem: &[u64], d: Numbers, pair: u64) -> bool
 {
     let start = log_at(d);
     let end = start + d.pairs;
-    revocation::log::has_pair(&mem[start..end], mem[13] as usize, pair)
+    revocation::log::has_pair(&mem[start..end], mem[LOGGED] as usize, pair)
 }
 
 // Of the first `count` pairs those that the log has not come to the front, in order; answers how many.
@@ -33,7 +34,7 @@ pub fn keep_absent(mem: &[u64], d: Numbers, pairs: &mut [u64], count: usize) -> 
 {
     let start = log_at(d);
     let end = start + d.pairs;
-    revocation::log::keep_absent(&mem[start..end], mem[13] as usize, pairs, count)
+    revocation::log::keep_absent(&mem[start..end], mem[LOGGED] as usize, pairs, count)
 }
 
 // These pairs join the log.
@@ -41,9 +42,9 @@ pub fn append_pairs(mem: &mut [u64], d: Numbers, pairs: &[u64])
     requires { ⌜ Ready d (now mem) × (loggedOf (now mem) + length (now pairs) ≤ d .pairs) ⌝ }
     ensures { λ _. ⌜ now (mem .exit) ≡ logStep d (now (pairs .entry)) (now (mem .entry)) ⌝ }
 {
-    let n = mem[13] as usize;
+    let n = mem[LOGGED] as usize;
     let start = log_at(d);
     let end = start + d.pairs;
     revocation::log::append(&mut mem[start..end], n, pairs);
-    mem[13] = (n + pairs.len()) as u64;
+    mem[LOGGED] = (n + pairs.len()) as u64;
 }

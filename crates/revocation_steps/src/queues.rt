@@ -12,6 +12,8 @@ ghost use Rattle.world.specs.Regions.{queue, view};
 ghost use Rattle.world.specs.Sound.{lengths};
 ghost use Rattle.revocation_steps.specs.Revocation.{queueFor, freeQueue, freeQueues, isIn, newQueues, notifyStep, notifyPids, notifyAll, freeStep};
 use revocation::RevocationReason;
+use revocation::queues::LENGTH;
+use revocation::queues::QUEUE;
 use world::Numbers;
 use world::regions::queue_at;
 
@@ -20,7 +22,7 @@ fn is_queue_of(mem: &[u64], at: usize, pid: u64) -> bool
     requires { ⌜ at + 771 ≤ length (now mem) ⌝ }
     ensures { λ r. ⌜ r ≡ both (ltb 0 (getD (now (mem .entry)) (at + 2) 0)) (eqb (getD (now (mem .entry)) at 0) pid) ⌝ }
 {
-    if 0 < mem[at + 2] {
+    if 0 < mem[at + LENGTH] {
         return mem[at] == pid;
     }
     false
@@ -31,7 +33,7 @@ fn is_free(mem: &[u64], at: usize) -> bool
     requires { ⌜ at + 771 ≤ length (now mem) ⌝ }
     ensures { λ r. ⌜ r ≡ eqb (getD (now (mem .entry)) (at + 2) 0) 0 ⌝ }
 {
-    mem[at + 2] == 0
+    mem[at + LENGTH] == 0
 }
 
 // The place of the queue of a pid, or how many places there are.
@@ -45,7 +47,7 @@ pub fn queue_for(mem: &[u64], d: Numbers, pid: u64) -> usize
         if is_queue_of(mem, at, pid) {
             return q;
         }
-        at += 771;
+        at += QUEUE;
         q += 1;
     }
     q
@@ -62,7 +64,7 @@ pub fn free_queue(mem: &[u64], d: Numbers) -> usize
         if is_free(mem, at) {
             return q;
         }
-        at += 771;
+        at += QUEUE;
         q += 1;
     }
     q
@@ -80,7 +82,7 @@ pub fn free_queues(mem: &[u64], d: Numbers) -> usize
         if is_free(mem, at) {
             free += 1;
         }
-        at += 771;
+        at += QUEUE;
         q += 1;
     }
     free
@@ -91,7 +93,7 @@ pub fn queue_length(mem: &[u64], d: Numbers, q: usize) -> u64
     requires { ⌜ Fits d (now mem) × (q < d .queues) ⌝ }
     ensures { λ r. ⌜ r ≡ lengths d (now (mem .entry)) q ⌝ }
 {
-    mem[queue_at(d, q) + 2]
+    mem[queue_at(d, q) + LENGTH]
 }
 
 // The notices of the queue at place q, oldest first, to the front of the area.
@@ -101,7 +103,7 @@ pub fn copy_notices(mem: &[u64], d: Numbers, q: usize, area: &mut [u64])
     ensures { λ _. ⌜ now (area .exit) ≡ written (notices (view d (queue q) (now (mem .entry)))) (now (area .entry)) ⌝ }
 {
     let start = queue_at(d, q);
-    let end = start + 771;
+    let end = start + QUEUE;
     revocation::queues::copy_notices(&mem[start..end], area);
 }
 
@@ -113,14 +115,14 @@ pub fn notify(mem: &mut [u64], d: Numbers, pid: u64, id: u64, time: u64, reason:
     let q = queue_for(mem, d, pid);
     if q < d.queues {
         let start = queue_at(d, q);
-        let end = start + 771;
+        let end = start + QUEUE;
         revocation::queues::push(&mut mem[start..end], id, time, reason);
         return;
     }
     let free = free_queue(mem, d);
     if free < d.queues {
         let start = queue_at(d, free);
-        let end = start + 771;
+        let end = start + QUEUE;
         revocation::queues::begin(&mut mem[start..end], pid, id, time, reason);
     }
 }
@@ -208,6 +210,6 @@ pub fn free_at(mem: &mut [u64], d: Numbers, q: usize)
     ensures { λ _. ⌜ now (mem .exit) ≡ freeStep d q (now (mem .entry)) ⌝ }
 {
     let start = queue_at(d, q);
-    let end = start + 771;
+    let end = start + QUEUE;
     revocation::queues::free(&mut mem[start..end]);
 }

@@ -27,6 +27,7 @@ use table::Got;
 use table::Nth;
 use token::CapabilityToken;
 use world::Numbers;
+use world::head::REGISTERED;
 use world::regions::registry_at;
 use world::regions::space_at;
 use world::regions::width;
@@ -111,7 +112,7 @@ pub fn insert(mem: &mut [u64], d: Numbers, s: usize, entry: CapabilityEntry) -> 
         × (r .moved ≡ insertOut (spaceOf d s (now (mem .entry))) entry .moved)
         ⌝ }
 {
-    let n = mem[11] as usize;
+    let n = mem[REGISTERED] as usize;
     let capability = entry.capability;
     let r = insert_entry(mem, d, s, entry);
     let answer = r.answer;
@@ -139,7 +140,7 @@ pub fn remove(mem: &mut [u64], d: Numbers, s: usize, token: CapabilityToken) -> 
     ensures { λ _. ⌜ now (mem .exit) ≡ removeStep d s (token .0) (now (mem .entry)) ⌝ }
     ensures { λ r. ⌜ r ≡ lookedUp (spaceOf d s (now (mem .entry))) (token .0) ⌝ }
 {
-    let n = mem[11] as usize;
+    let n = mem[REGISTERED] as usize;
     let r = remove_entry(mem, d, s, token);
     let got = r.got;
     match got {
@@ -174,7 +175,7 @@ pub fn strays(mem: &[u64], d: Numbers, s: usize) -> usize
     let count = ids_of(mem, d, s, &mut ids);
     let start = registry_at(d);
     let end = start + 5 * d.places + 1;
-    registry::children::strays(&mem[start..end], mem[11] as usize, &ids[..count])
+    registry::children::strays(&mem[start..end], mem[REGISTERED] as usize, &ids[..count])
 }
 
 // Every entry out of the space.
@@ -192,7 +193,7 @@ pub fn clear(mem: &mut [u64], d: Numbers, s: usize)
     requires { ⌜ Ready d (now mem) × (s < d .spaces) ⌝ }
     ensures { λ _. ⌜ now (mem .exit) ≡ clearStep d s (now (mem .entry)) ⌝ }
 {
-    let n = mem[11] as usize;
+    let n = mem[REGISTERED] as usize;
     let mut ids = [0u64; 512];
     let count = ids_of(mem, d, s, &mut ids);
     clear_entries(mem, d, s);
@@ -220,7 +221,7 @@ pub fn copy(mem: &mut [u64], d: Numbers, target: usize, source: usize) -> Copied
     ensures { λ _. ⌜ now (mem .exit) ≡ copyStep d target source (now (mem .entry)) ⌝ }
     ensures { λ r. ⌜ r ≡ copiedOf d target source (now (mem .entry)) ⌝ }
 {
-    let n = mem[11] as usize;
+    let n = mem[REGISTERED] as usize;
     let mut came = [0u64; 512];
     let mut left = [0u64; 512];
     let accepted = ids_of(mem, d, source, &mut came);

@@ -11,6 +11,8 @@ ghost use Rattle.world.specs.Sound.{ids, states, links};
 ghost use Rattle.steps.specs.Ready.{Ready};
 ghost use Rattle.steps.specs.Steps.{placeIn, objects, registerStep, listStep, unregisterStep, recycleStep, collectStep, childrenOf, addStep};
 use world::Numbers;
+use world::head::RECYCLED;
+use world::head::REGISTERED;
 use world::regions::registry_at;
 
 // The place of an id, or how many are registered.
@@ -20,7 +22,7 @@ pub fn place_of(mem: &[u64], d: Numbers, id: u64) -> usize
 {
     let start = registry_at(d);
     let end = start + 5 * d.places + 1;
-    registry::holders::place_of(&mem[start..end], mem[11] as usize, id)
+    registry::holders::place_of(&mem[start..end], mem[REGISTERED] as usize, id)
 }
 
 // Word i of the registry.
@@ -64,11 +66,11 @@ pub fn register(mem: &mut [u64], d: Numbers, id: u64, object: u64, link: u64)
     requires { ⌜ Ready d (now mem) × (registeredOf (now mem) < d .places) ⌝ }
     ensures { λ _. ⌜ now (mem .exit) ≡ registerStep d id object link (now (mem .entry)) ⌝ }
 {
-    let n = mem[11] as usize;
+    let n = mem[REGISTERED] as usize;
     let start = registry_at(d);
     let end = start + 5 * d.places + 1;
     registry::registering::register(&mut mem[start..end], d.places, n, id, object, link);
-    mem[11] = (n + 1) as u64;
+    mem[REGISTERED] = (n + 1) as u64;
 }
 
 pub fn give_list(mem: &mut [u64], d: Numbers, p: usize)
@@ -84,22 +86,22 @@ pub fn unregister(mem: &mut [u64], d: Numbers, k: usize)
     requires { ⌜ Ready d (now mem) × (k < registeredOf (now mem)) ⌝ }
     ensures { λ _. ⌜ now (mem .exit) ≡ unregisterStep d k (now (mem .entry)) ⌝ }
 {
-    let n = mem[11] as usize;
+    let n = mem[REGISTERED] as usize;
     let start = registry_at(d);
     let end = start + 5 * d.places + 1;
     registry::registering::unregister(&mut mem[start..end], d.places, n, k);
-    mem[11] = (n - 1) as u64;
+    mem[REGISTERED] = (n - 1) as u64;
 }
 
 pub fn recycle(mem: &mut [u64], d: Numbers, id: u64)
     requires { ⌜ Ready d (now mem) × (recycledOf (now mem) ≤ d .places) ⌝ }
     ensures { λ _. ⌜ now (mem .exit) ≡ recycleStep d id (now (mem .entry)) ⌝ }
 {
-    let m = mem[12] as usize;
+    let m = mem[RECYCLED] as usize;
     let start = registry_at(d);
     let end = start + 5 * d.places + 1;
     registry::ids::recycle(&mut mem[start..end], d.places, m, id);
-    mem[12] = (m + 1) as u64;
+    mem[RECYCLED] = (m + 1) as u64;
 }
 
 // The children of place p with no children and no holders leave.
@@ -107,11 +109,11 @@ pub fn collect(mem: &mut [u64], d: Numbers, p: usize)
     requires { ⌜ Ready d (now mem) × (p ≤ d .places) ⌝ }
     ensures { λ _. ⌜ now (mem .exit) ≡ collectStep d p (now (mem .entry)) ⌝ }
 {
-    let n = mem[11] as usize;
+    let n = mem[REGISTERED] as usize;
     let start = registry_at(d);
     let end = start + 5 * d.places + 1;
     let left = registry::registering::collect(&mut mem[start..end], d.places, p, n);
-    mem[11] = left as u64;
+    mem[REGISTERED] = left as u64;
 }
 
 pub fn child_count(mem: &[u64], d: Numbers, p: usize) -> usize
@@ -120,7 +122,7 @@ pub fn child_count(mem: &[u64], d: Numbers, p: usize) -> usize
 {
     let start = registry_at(d);
     let end = start + 5 * d.places + 1;
-    registry::children::child_count(&mem[start..end], d.places, mem[11] as usize, p)
+    registry::children::child_count(&mem[start..end], d.places, mem[REGISTERED] as usize, p)
 }
 
 // The ids of the children of place p, in list order, to the front of `area`.
@@ -133,7 +135,13 @@ pub fn list_children(mem: &[u64], d: Numbers, p: usize, area: &mut [u64])
 {
     let start = registry_at(d);
     let end = start + 5 * d.places + 1;
-    registry::children::list_children(&mem[start..end], d.places, mem[11] as usize, p, area);
+    registry::children::list_children(
+        &mem[start..end],
+        d.places,
+        mem[REGISTERED] as usize,
+        p,
+        area,
+    );
 }
 
 // How many ids have a list of children.
@@ -143,7 +151,7 @@ pub fn parents(mem: &[u64], d: Numbers) -> usize
 {
     let start = registry_at(d);
     let end = start + 5 * d.places + 1;
-    registry::children::parents(&mem[start..end], d.places, mem[11] as usize)
+    registry::children::parents(&mem[start..end], d.places, mem[REGISTERED] as usize)
 }
 
 // How many children stand in lists.
@@ -153,7 +161,7 @@ pub fn edges(mem: &[u64], d: Numbers) -> usize
 {
     let start = registry_at(d);
     let end = start + 5 * d.places + 1;
-    registry::children::edges(&mem[start..end], d.places, mem[11] as usize)
+    registry::children::edges(&mem[start..end], d.places, mem[REGISTERED] as usize)
 }
 
 // Word i of the head, the epoch or a statistic, counts k more.

@@ -6,8 +6,19 @@ ghost use Rattle.world.specs.Numbers.{numbersOf, inRangeTest};
 ghost use Rattle.world.specs.Numbers as spec;
 use crate::Numbers;
 
-// Words of the head behind the numbers: the next id, and how many are registered, recycled and logged.
+// The words of the head behind the numbers: the next id, the epoch of the log, the four statistics of the manager, and how many ids are
+// registered, how many recycled, and how many pairs logged.
 pub const NEXT: usize = 5;
+
+pub const EPOCH: usize = 6;
+
+pub const CREATED: usize = 7;
+
+pub const DELEGATED: usize = 8;
+
+pub const REVOKED: usize = 9;
+
+pub const DELETED: usize = 10;
 
 pub const REGISTERED: usize = 11;
 

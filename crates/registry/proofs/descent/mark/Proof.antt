@@ -2,10 +2,9 @@
 use mathlib.Core.Path.{_≡_}
 use mathlib.Core.List.{List, [], _∷_}
 use Prim.Native.Nat.{ℕ, _+_, _-_, _<_, _≤_}
-use native.Mathlib.Numerals.{add-one}
 use borrow.Author.Needs.{needs}
 use lib.ListN.{length, getD, drop, drop-of-length-le}
-use lib.Seq.{drop-cons}
+use Rattle.base.specs.Rest.{drop-next}
 use Rattle.registry.specs.PlaceLists.{all-below-at}
 use Rattle.registry.specs.Descent.{marked}
 use Rattle.registry.proofs.descent.mark.Statement.{statement}
@@ -14,7 +13,7 @@ use Rattle.registry.proofs.descent.mark.Tie as tie
 module _ (places j : ℕ) (order rg ys : List ℕ) (e : marked places (drop j order) rg ≡ ys) where
   turn : (rg′ : List ℕ) → j < length order → rg′ ≡ marked places (getD order j 0 ∷ []) rg → marked places (drop (j + 1) order) rg′ ≡ ys
   unfolding marked
-  turn rg′ l h = rw (h, add-one j) (rw (drop-cons order j 0 l) at e)
+  turn rg′ l h = rw h (rw (drop-next order j l) at e)
 
   done : length order ≤ j → rg ≡ ys
   unfolding marked
