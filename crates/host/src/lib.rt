@@ -1,5 +1,5 @@
 // What a program in C or Rust calls: the library's functions by plain names, numbers in, numbers out.
-// Each is one call, and its contract cites the same definition as the function's own.
+// The contract of each cites the same definition as the function's own.
 mod flags;
 mod manager;
 mod replies;

@@ -1,5 +1,5 @@
--- The calls of the manager but delegate: what each answers and leaves, on every memory and every argument. Document 01's order of
--- refusals: 26, 20, 21, then the source's.
+-- The calls of the manager but revoke and delegate, children and their statistics, and the census: what each answers and leaves, on every
+-- memory and every argument. Document 01's order of refusals: 26, 20, 21, then the source's.
 use mathlib.Core.Bool.{Bool, false, not}
 use mathlib.Core.List.{List}
 use Prim.Native.Nat.{ℕ, _^_}
@@ -108,10 +108,10 @@ childrenOut mem id area =
     when (leb (2 ^ 48) id) (record { reply = refusal BadField; area = area })
     (intoArea (childIds (d .places) (placeIn d mem id) (registeredOf mem) (view d registry mem)) area))
 
--- How many ids have a list of children, and how many children there are.
 abbrev pub noTree : Answer → TreeReply
 noTree answer = record { answer = answer; parents = 0; children = 0 }
 
+-- How many ids have a list of children, and how many children there are.
 unfoldable pub treeStatsOut : List ℕ → TreeReply
 treeStatsOut mem =
     onWorld noTree mem (λ d.

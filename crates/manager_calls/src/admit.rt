@@ -1,4 +1,4 @@
-// A capability that was registered enters a space, or everything is taken back.
+// A capability that was registered enters a space; if the space refuses it, it leaves the registry again and its id is recycled.
 ghost use mathlib.Core.Path.{_≡_};
 ghost use Prim.Native.Nat.{_-_, _<_, _≤_};
 ghost use Rattle.world.specs.Numbers.{registeredOf, recycledOf};

@@ -1,6 +1,6 @@
-// The calls of the manager: every public function of manager.rs but `revoke` and `delegate`, and of revocation.rs those that read the
-// derivation tree, on the world's memory; and the census of a space. No call asks anything of its arguments or of the memory: each looks
-// first, and refuses by document 01's table. `admit` and `tokens` are no calls: they are what create and check have in common with
+// The calls of the manager: every public function of manager.rs but `revoke` and `delegate`, and of revocation.rs `get_children` and
+// `derivation_tree_stats`, on the world's memory; and the census of a space. No call asks anything of its arguments or of the memory: each
+// looks first, and refuses by document 01's table. `admit` and `tokens` are no calls: they are what create and check have in common with
 // `delegation_calls`.
 pub mod admit;
 mod check;

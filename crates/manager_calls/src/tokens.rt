@@ -8,8 +8,8 @@ use token::CapabilityToken;
 use token::Rights;
 use world::Numbers;
 
-// The token of an unrevoked id, whose generation is 0. `CapabilityToken::new` tests fields that are in range here, and every caller would
-// have to deal with a refusal that cannot come.
+// The token of an unrevoked id, whose generation is 0. `CapabilityToken::new` would test fields that are in range wherever this is
+// called, and every caller would have to deal with a refusal that cannot come.
 pub fn token_of(id: u64, cap_type: u8, rights: Rights) -> CapabilityToken
     requires { ⌜ «cap_type» ≤ 15 ⌝ }
     ensures { λ r. ⌜ r .0 ≡ tokenOf id «cap_type» (rights .0) ⌝ }

@@ -64,12 +64,13 @@ isRevokedOut mem token =
 unfoldable pub epochOut : List ℕ → Reply
 epochOut mem = onWorld refusal mem (λ d. done (epochOf mem))
 
--- `get_derivation_tree`: all descendants of an id, breadth first, to the area. 21 for an id over 2^48-1 too.
+-- All descendants of the id at place r, breadth first; none where r is no place of an id.
 abbrev pub descendants : Numbers → List ℕ → ℕ → List ℕ
 descendants d mem r =
     let rg = view d registry mem in
     pick (ltb r (registeredOf mem)) (idsAt rg (drop 1 (descent (d .places) (registeredOf mem) rg r))) []
 
+-- `get_derivation_tree`: they go to the area. 21 for an id over 2^48-1 too.
 unfoldable pub descendantsOut : List ℕ → ℕ → List ℕ → WithArea
 descendantsOut mem id area =
     onWorld (λ a. record { reply = refusal a; area = area }) mem (λ d.

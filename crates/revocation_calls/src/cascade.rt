@@ -1,5 +1,5 @@
-// A cascade: a registered id and all its descendants that are not revoked yet, revoked, logged and queued. manager.rs's `revoke`, from the
-// place of its id on.
+// A cascade: a registered id and all its descendants that are not revoked yet are revoked and logged, and the descendants queued to the
+// listed pids. manager.rs's `revoke`, from the place of its id on.
 ghost use mathlib.Core.Path.{_≡_};
 ghost use Prim.Native.Nat.{_+_, _<_, _≤_};
 ghost use lib.ListN.{length, take};

@@ -1,6 +1,7 @@
 // The calls of revocation: manager.rs's `revoke` and every public function of revocation.rs but those left out, the manager's and
 // those for notifications (`notification_calls`), on the world's memory. No call asks anything of its arguments or of the memory: each
-// looks first, and refuses by document 01's table. What each answers and leaves is defined in specs/.
+// but `write_reason`, which has no memory, looks first, and refuses by document 01's table. What each answers and leaves is defined in
+// specs/.
 mod cascade;
 mod read;
 mod revoking;

@@ -158,7 +158,7 @@ pub fn revoke_capability(
     }
 }
 
-// The space's own lookup comes first and is counted; the count is its visits.
+// Where 26, 20 and 21 are not given, the space's own lookup comes first and is counted; the count is its visits.
 pub fn revoke_held(
     mem: &mut [u64],
     s: usize,

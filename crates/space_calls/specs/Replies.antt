@@ -19,8 +19,9 @@ use Rattle.steps.specs.declared.Reply.{Reply}
 use Rattle.space_calls.specs.declared.EntryReply.{EntryReply}
 use Rattle.space_calls.specs.declared.FactsReply.{FactsReply}
 
--- ---- an entry that was looked for: 0 with its value, or 8
+-- ---- an entry that was looked for
 
+-- 0 with its value, or 8.
 abbrev pub foundReply : (CapabilityEntry → ℕ) → Got → ℕ → Reply
 foundReply value (Entry e) visits = replied Done (value e) visits
 foundReply value Nothing visits = replied NotFound 0 visits

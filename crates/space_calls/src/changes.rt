@@ -104,7 +104,7 @@ pub fn clear(mem: &mut [u64], s: usize) -> Reply
     }
 }
 
-// For process cleanup: the generation goes up, so that outstanding tokens of the space are stale.
+// For process cleanup: all entries leave, and the space's generation goes up.
 pub fn revoke_all(mem: &mut [u64], s: usize) -> Reply
     ensures { λ r. ⌜ record { reply = r; memory = now (mem .exit) } ≡ revokeAllOut (now (mem .entry)) s ⌝ }
 {

@@ -1,5 +1,6 @@
-// The calls of a capability space: every public function of space.rs's `CapabilitySpace`, and `alloc_cap_id` of token.rs, on the world's
-// memory. No call asks anything of its arguments or of the memory: each looks first, and refuses by document 01's table.
+// The calls of a capability space: every public function of space.rs's `CapabilitySpace` but those that make one, with `entries` and
+// `iter_capabilities` as the n-th entry, and `alloc_cap_id` of token.rs, on the world's memory. No call asks anything of its arguments
+// or of the memory: each looks first, and refuses by document 01's table.
 mod changes;
 mod entries;
 mod facts;
