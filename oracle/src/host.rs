@@ -157,7 +157,7 @@ unsafe extern "C" {
         length: usize,
         token: u64,
         time: u64,
-        listed: *const u64,
+        pids: *const u64,
         count: usize,
     );
     pub fn stonespry_revoke_capability(
@@ -166,7 +166,7 @@ unsafe extern "C" {
         length: usize,
         token: u64,
         time: u64,
-        listed: *const u64,
+        pids: *const u64,
         count: usize,
     );
     pub fn stonespry_revoke_held(
@@ -176,7 +176,7 @@ unsafe extern "C" {
         s: usize,
         token: u64,
         time: u64,
-        listed: *const u64,
+        pids: *const u64,
         count: usize,
     );
     pub fn stonespry_revoke_batch(
@@ -186,7 +186,7 @@ unsafe extern "C" {
         tokens: *const u64,
         batch: usize,
         time: u64,
-        listed: *const u64,
+        pids: *const u64,
         count: usize,
     );
 
