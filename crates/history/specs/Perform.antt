@@ -9,9 +9,11 @@ use Rattle.manager_calls.specs.declared.TreeReply.{TreeReply}
 use Rattle.notification_calls.specs.Calls as notification
 use Rattle.notification_calls.specs.declared.QueuesReply.{QueuesReply}
 use Rattle.revocation_calls.specs.Calls as revocation
+use Rattle.revocation_reads.specs.Calls as revocationReads
 use Rattle.space_calls.specs.Calls as space
-use Rattle.space_calls.specs.declared.EntryReply.{EntryReply}
-use Rattle.space_calls.specs.declared.StatsReply.{StatsReply as SpaceStatsReply}
+use Rattle.space_reads.specs.Calls as spaceReads
+use Rattle.space_reads.specs.declared.EntryReply.{EntryReply}
+use Rattle.space_reads.specs.declared.StatsReply.{StatsReply as SpaceStatsReply}
 use Rattle.steps.specs.Replies.{Left, WithArea}
 use Rattle.steps.specs.declared.Reply.{Reply}
 use Rattle.world.specs.Open.{opening}
@@ -43,21 +45,21 @@ answerOf (queues r) = r .answer
 answerOf (list r) = r .reply .answer
 
 unfoldable pub read : Reading → List ℕ → Answered
-read (space-used s) mem = plain (space.usedOut mem s)
-read (space-quota s) mem = plain (space.quotaOut mem s)
-read (space-table-capacity s) mem = plain (space.capacityOut mem s)
-read (space-generation s) mem = plain (space.generationOut mem s)
-read (space-stats s) mem = space-statistics (space.statsOut mem s)
-read (space-get-entry s id) mem = entry (space.getEntryOut mem s id)
-read (space-nth-entry s n) mem = entry (space.nthEntryOut mem s n)
+read (space-used s) mem = plain (spaceReads.usedOut mem s)
+read (space-quota s) mem = plain (spaceReads.quotaOut mem s)
+read (space-table-capacity s) mem = plain (spaceReads.capacityOut mem s)
+read (space-generation s) mem = plain (spaceReads.generationOut mem s)
+read (space-stats s) mem = space-statistics (spaceReads.statsOut mem s)
+read (space-get-entry s id) mem = entry (spaceReads.getEntryOut mem s id)
+read (space-nth-entry s n) mem = entry (spaceReads.nthEntryOut mem s n)
 read (is-valid token) mem = plain (manager.isValidOut mem token)
 read manager-stats mem = statistics (manager.statsOut mem)
 read (get-children id area) mem = list (manager.childrenOut mem id area)
 read derivation-tree-stats mem = tree (manager.treeStatsOut mem)
 read (census s) mem = plain (manager.censusOut mem s)
-read (is-revoked token) mem = plain (revocation.isRevokedOut mem token)
-read epoch mem = plain (revocation.epochOut mem)
-read (get-derivation-tree id area) mem = list (revocation.descendantsOut mem id area)
+read (is-revoked token) mem = plain (revocationReads.isRevokedOut mem token)
+read epoch mem = plain (revocationReads.epochOut mem)
+read (get-derivation-tree id area) mem = list (revocationReads.descendantsOut mem id area)
 read (peek-notifications pid area) mem = list (notification.peekOut mem pid area)
 read (notification-count pid) mem = plain (notification.notificationCountOut mem pid)
 read notification-stats mem = queues (notification.notificationStatsOut mem)
@@ -74,9 +76,9 @@ abbrev pub told : {A : Type 0} → (A → Answered) → Left A → Left Answered
 told kind out = record { reply = kind (out .reply); memory = out .memory }
 
 unfoldable pub change : Changing → List ℕ → Left Answered
-change (space-lookup s token) mem = told plain (space.lookupOut mem s token)
-change (space-lookup-entry s token) mem = told entry (space.lookupEntryOut mem s token)
-change (space-check-rights s token required) mem = told plain (space.checkRightsOut mem s token required)
+change (space-lookup s token) mem = told plain (spaceReads.lookupOut mem s token)
+change (space-lookup-entry s token) mem = told entry (spaceReads.lookupEntryOut mem s token)
+change (space-check-rights s token required) mem = told plain (spaceReads.checkRightsOut mem s token required)
 change (space-remove s token) mem = told plain (space.removeOut mem s token)
 change (space-increment-generation s) mem = told plain (space.incrementOut mem s)
 change (space-clear s) mem = told plain (space.clearOut mem s)

@@ -14,6 +14,7 @@ use Rattle.manager_calls.specs.Calls as manager
 use Rattle.revocation_calls.specs.Calls as revocation
 use Rattle.space.specs.Words.{generationOf}
 use Rattle.space_calls.specs.Calls as space
+use Rattle.space_reads.specs.Calls as spaceReads
 use Rattle.steps.specs.Replies.{Left}
 use Rattle.steps.specs.Steps.{spaceOf}
 use Rattle.token.specs.Token.{made}
@@ -87,12 +88,12 @@ abbrev pub Walked : List ℕ → Call → ℕ → Type 0
 Walked mem call visits = (w : Walk) × (Walks mem call w × (visits ≡ w .visits))
 
 pub record VisitsOf (mem : List ℕ) (s : ℕ) : Type 0 where
-  pub of-lookup : (token : ℕ) → Walked mem (changes (space-lookup s token)) (space.lookupOut mem s token .reply .count)
-  pub of-lookup-entry : (token : ℕ) → Walked mem (changes (space-lookup-entry s token)) (space.lookupEntryOut mem s token .reply .visits)
+  pub of-lookup : (token : ℕ) → Walked mem (changes (space-lookup s token)) (spaceReads.lookupOut mem s token .reply .count)
+  pub of-lookup-entry : (token : ℕ) → Walked mem (changes (space-lookup-entry s token)) (spaceReads.lookupEntryOut mem s token .reply .visits)
   pub of-check-rights :
       (token required : ℕ)
-      → Walked mem (changes (space-check-rights s token required)) (space.checkRightsOut mem s token required .reply .count)
-  pub of-get-entry : (id : ℕ) → id < 2 ^ 48 → Walked mem (reads (space-get-entry s id)) (space.getEntryOut mem s id .visits)
+      → Walked mem (changes (space-check-rights s token required)) (spaceReads.checkRightsOut mem s token required .reply .count)
+  pub of-get-entry : (id : ℕ) → id < 2 ^ 48 → Walked mem (reads (space-get-entry s id)) (spaceReads.getEntryOut mem s id .visits)
   pub of-remove : (token : ℕ) → Walked mem (changes (space-remove s token)) (space.removeOut mem s token .reply .count)
   pub of-space-revoke :
       (id : ℕ) (t : CapabilityToken) → made id (generationOf (spaceOf (numbersOf mem) s mem)) 0 0 ≡ Token t

@@ -1,7 +1,7 @@
 -- The entries and statistics of a space as a host sees them: the answer by its number, tokens and rights by theirs, all else as it is.
 use Rattle.answers.specs.Number.{numberOf}
-use Rattle.space_calls.specs.declared.EntryReply.{EntryReply}
-use Rattle.space_calls.specs.declared.StatsReply.{StatsReply}
+use Rattle.space_reads.specs.declared.EntryReply.{EntryReply}
+use Rattle.space_reads.specs.declared.StatsReply.{StatsReply}
 use Rattle.host.specs.declared.spaces.EntryAnswer.{EntryAnswer}
 use Rattle.host.specs.declared.spaces.StatsAnswer.{StatsAnswer}
 

@@ -3,7 +3,8 @@
 // answer as a number.
 ghost use mathlib.Core.Path.{_≡_};
 ghost use Rattle.notification_calls.specs.Calls.{notifyOut, drainOut, peekOut, notificationCountOut, cleanupOut, notificationStatsOut};
-ghost use Rattle.revocation_calls.specs.Calls.{revokeOut, revokeCapabilityOut, revokeHeldOut, revokeBatchOut, isRevokedOut, epochOut, descendantsOut, reasonOut};
+ghost use Rattle.revocation_calls.specs.Calls.{revokeOut, revokeCapabilityOut, revokeHeldOut, revokeBatchOut};
+ghost use Rattle.revocation_reads.specs.Calls.{isRevokedOut, epochOut, descendantsOut, reasonOut};
 ghost use Rattle.host.specs.Replies.{callAnswer, told, areaAnswer};
 ghost use Rattle.host.specs.Revocation.{queuesAnswer};
 use super::replies::CallAnswer;
@@ -87,14 +88,14 @@ pub extern "C" fn stonespry_revoke_batch(
 pub extern "C" fn stonespry_is_revoked(mem: &[u64], token: u64) -> CallAnswer
     ensures { λ r. ⌜ r ≡ callAnswer (isRevokedOut (now (mem .entry)) token) ⌝ }
 {
-    answered(revocation_calls::is_revoked(mem, CapabilityToken(token)))
+    answered(revocation_reads::is_revoked(mem, CapabilityToken(token)))
 }
 
 #[no_mangle]
 pub extern "C" fn stonespry_epoch(mem: &[u64]) -> CallAnswer
     ensures { λ r. ⌜ r ≡ callAnswer (epochOut (now (mem .entry))) ⌝ }
 {
-    answered(revocation_calls::epoch(mem))
+    answered(revocation_reads::epoch(mem))
 }
 
 #[no_mangle]
@@ -108,7 +109,7 @@ pub extern "C" fn stonespry_get_derivation_tree(
         ≡ areaAnswer (descendantsOut (now (mem .entry)) id (now (area .entry)))
         ⌝ }
 {
-    answered(revocation_calls::get_derivation_tree(mem, id, area))
+    answered(revocation_reads::get_derivation_tree(mem, id, area))
 }
 
 // ---- notifications
@@ -186,5 +187,5 @@ pub extern "C" fn stonespry_notification_stats(mem: &[u64]) -> QueuesAnswer
 pub extern "C" fn stonespry_write_reason(reason: u8, area: &mut [u8]) -> CallAnswer
     ensures { λ r. ⌜ record { reply = r; area = now (area .exit) } ≡ areaAnswer (reasonOut «reason» (now (area .entry))) ⌝ }
 {
-    answered(revocation_calls::write_reason(reason, area))
+    answered(revocation_reads::write_reason(reason, area))
 }

@@ -1,12 +1,13 @@
 // The calls of a space for a host: the memory is a slice of words that the host lends, a token its word, a set of rights its 32 bits.
-// Each is the call of the same name in `space_calls`, with its answer as a number.
+// Each is the call of the same name in `space_reads` or `space_calls`, with its answer as a number.
 ghost use mathlib.Core.Path.{_≡_};
-ghost use Rattle.space_calls.specs.Calls.{usedOut, quotaOut, capacityOut, generationOut, statsOut, lookupOut, lookupEntryOut, checkRightsOut, getEntryOut, nthEntryOut, insertCallOut, removeOut, incrementOut, clearOut, revokeAllOut, copyOut, allocOut, createOut, revokeOut};
+ghost use Rattle.space_calls.specs.Calls.{insertCallOut, removeOut, incrementOut, clearOut, revokeAllOut, copyOut, allocOut, createOut, revokeOut};
+ghost use Rattle.space_reads.specs.Calls.{usedOut, quotaOut, capacityOut, generationOut, statsOut, lookupOut, lookupEntryOut, checkRightsOut, getEntryOut, nthEntryOut};
 ghost use Rattle.host.specs.Replies.{callAnswer, told};
 ghost use Rattle.host.specs.Spaces.{entryAnswer, statsAnswer};
 use super::replies::CallAnswer;
 use super::replies::answered;
-use space_calls::EntryReply;
+use space_reads::EntryReply;
 use token::CapabilityToken;
 use token::Rights;
 
@@ -52,35 +53,35 @@ fn entry_answered(reply: EntryReply) -> EntryAnswer
 pub extern "C" fn stonespry_space_used(mem: &[u64], s: usize) -> CallAnswer
     ensures { λ r. ⌜ r ≡ callAnswer (usedOut (now (mem .entry)) s) ⌝ }
 {
-    answered(space_calls::used(mem, s))
+    answered(space_reads::used(mem, s))
 }
 
 #[no_mangle]
 pub extern "C" fn stonespry_space_quota(mem: &[u64], s: usize) -> CallAnswer
     ensures { λ r. ⌜ r ≡ callAnswer (quotaOut (now (mem .entry)) s) ⌝ }
 {
-    answered(space_calls::quota(mem, s))
+    answered(space_reads::quota(mem, s))
 }
 
 #[no_mangle]
 pub extern "C" fn stonespry_space_table_capacity(mem: &[u64], s: usize) -> CallAnswer
     ensures { λ r. ⌜ r ≡ callAnswer (capacityOut (now (mem .entry)) s) ⌝ }
 {
-    answered(space_calls::table_capacity(mem, s))
+    answered(space_reads::table_capacity(mem, s))
 }
 
 #[no_mangle]
 pub extern "C" fn stonespry_space_generation(mem: &[u64], s: usize) -> CallAnswer
     ensures { λ r. ⌜ r ≡ callAnswer (generationOut (now (mem .entry)) s) ⌝ }
 {
-    answered(space_calls::generation(mem, s))
+    answered(space_reads::generation(mem, s))
 }
 
 #[no_mangle]
 pub extern "C" fn stonespry_space_stats(mem: &[u64], s: usize) -> StatsAnswer
     ensures { λ r. ⌜ r ≡ statsAnswer (statsOut (now (mem .entry)) s) ⌝ }
 {
-    let reply = space_calls::stats(mem, s);
+    let reply = space_reads::stats(mem, s);
     let answer = reply.answer;
     StatsAnswer {
         answer: answer.number(),
@@ -96,14 +97,14 @@ pub extern "C" fn stonespry_space_stats(mem: &[u64], s: usize) -> StatsAnswer
 pub extern "C" fn stonespry_space_lookup(mem: &mut [u64], s: usize, token: u64) -> CallAnswer
     ensures { λ r. ⌜ record { reply = r; memory = now (mem .exit) } ≡ told callAnswer (lookupOut (now (mem .entry)) s token) ⌝ }
 {
-    answered(space_calls::lookup(mem, s, CapabilityToken(token)))
+    answered(space_reads::lookup(mem, s, CapabilityToken(token)))
 }
 
 #[no_mangle]
 pub extern "C" fn stonespry_space_lookup_entry(mem: &mut [u64], s: usize, token: u64) -> EntryAnswer
     ensures { λ r. ⌜ record { reply = r; memory = now (mem .exit) } ≡ told entryAnswer (lookupEntryOut (now (mem .entry)) s token) ⌝ }
 {
-    entry_answered(space_calls::lookup_entry(mem, s, CapabilityToken(token)))
+    entry_answered(space_reads::lookup_entry(mem, s, CapabilityToken(token)))
 }
 
 #[no_mangle]
@@ -118,21 +119,21 @@ pub extern "C" fn stonespry_space_check_rights(
         ≡ told callAnswer (checkRightsOut (now (mem .entry)) s token required)
         ⌝ }
 {
-    answered(space_calls::check_rights(mem, s, CapabilityToken(token), Rights(required)))
+    answered(space_reads::check_rights(mem, s, CapabilityToken(token), Rights(required)))
 }
 
 #[no_mangle]
 pub extern "C" fn stonespry_space_get_entry(mem: &[u64], s: usize, id: u64) -> EntryAnswer
     ensures { λ r. ⌜ r ≡ entryAnswer (getEntryOut (now (mem .entry)) s id) ⌝ }
 {
-    entry_answered(space_calls::get_entry(mem, s, id))
+    entry_answered(space_reads::get_entry(mem, s, id))
 }
 
 #[no_mangle]
 pub extern "C" fn stonespry_space_nth_entry(mem: &[u64], s: usize, n: usize) -> EntryAnswer
     ensures { λ r. ⌜ r ≡ entryAnswer (nthEntryOut (now (mem .entry)) s n) ⌝ }
 {
-    entry_answered(space_calls::nth_entry(mem, s, n))
+    entry_answered(space_reads::nth_entry(mem, s, n))
 }
 
 // ---- changing a space

@@ -15,6 +15,7 @@ use Rattle.manager_calls.specs.Calls as manager
 use Rattle.notification_calls.specs.Calls as notification
 use Rattle.revocation_calls.specs.Calls as revocation
 use Rattle.space_calls.specs.Calls as space
+use Rattle.space_reads.specs.Calls.{lookupOut}
 use Rattle.steps.specs.Replies.{Left, WithArea, done, refusal, refuse}
 use Rattle.steps.specs.declared.Reply.{Reply}
 use Rattle.world.specs.Open.{opened, opening}
@@ -50,7 +51,7 @@ unfoldable pub called1To5 : Request → List ℕ → Left Reply
 called1To5 r mem =
     when (eqb (r .op) 1) (manager.createOut mem (r .space) (r .a) (eqb (r .valid) 1) (r .«cap_type») (r .rights))
     (when (eqb (r .op) 2) (delegateOut mem (r .a) (r .space) (r .second) (r .rights))
-    (when (eqb (r .op) 3) (space.lookupOut mem (r .space) (r .a))
+    (when (eqb (r .op) 3) (lookupOut mem (r .space) (r .a))
     (when (eqb (r .op) 4) (manager.checkOut mem (r .a) (r .rights) (r .space)) (space.removeOut mem (r .space) (r .a)))))
 
 -- 6 delete, 7 held revoke, 8 clear, 9 copy, 10 `revoke_all`.

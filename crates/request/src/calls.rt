@@ -46,7 +46,7 @@ fn call_1_to_5(r: Request, mem: &mut [u64]) -> Reply
         return delegation_calls::delegate(mem, token, s, r.second as usize, rights);
     }
     if r.op == 3 {
-        return space_calls::lookup(mem, s, token);
+        return space_reads::lookup(mem, s, token);
     }
     if r.op == 4 {
         return manager_calls::check_capability(mem, token, rights, s);

@@ -1,3 +1,2 @@
 -- What the proofs of `revocation_calls` share.
 pub mod laws
-pub mod Pairs

@@ -1,15 +1,9 @@
-// The calls of revocation: manager.rs's `revoke` and every public function of revocation.rs but those left out, the manager's and
-// those for notifications (`notification_calls`), on the world's memory. No call asks anything of its arguments or of the memory: each
-// but `write_reason`, which has no memory, looks first, and refuses by document 01's table. What each answers and leaves is defined in
-// specs/.
+// The calls that revoke: manager.rs's `revoke`, and of revocation.rs those that revoke, on the world's memory. No call asks anything of its
+// arguments or of the memory: each looks first, and refuses by document 01's table. What each answers and leaves is defined in specs/. What
+// only reads is in `revocation_reads`, the calls for notifications in `notification_calls`.
 mod cascade;
-mod read;
 mod revoking;
 
-pub use read::epoch;
-pub use read::get_derivation_tree;
-pub use read::is_revoked;
-pub use read::write_reason;
 pub use revoking::revoke;
 pub use revoking::revoke_batch;
 pub use revoking::revoke_capability;

@@ -2,3 +2,4 @@
 pub mod laws
 pub mod AlongQueues
 pub mod Notifying
+pub mod Pairs

@@ -1,3 +1,2 @@
 -- What the proofs of `space_calls` share.
-pub mod Replying
 pub mod Making

@@ -1,3 +1,3 @@
--- What the calls of a space answer and leave.
+-- What the calls that change a space answer and leave.
 pub mod Replies
 pub mod Calls

@@ -5,7 +5,8 @@ use Rattle.answers.specs.declared.Answer.{Answer}
 use Rattle.history.specs.Counts.{given0}
 use Rattle.steps.proofs.laws.Cases.{unless-below}
 use Rattle.space.specs.Words.{generationOf}
-use Rattle.space_calls.specs.Calls.{lookupOut, lookupEntryOut, checkRightsOut, insertCallOut, removeOut, incrementOut, clearOut, revokeAllOut, copyOut, allocOut, createOut, revokeMade, revokeOut}
+use Rattle.space_calls.specs.Calls.{insertCallOut, removeOut, incrementOut, clearOut, revokeAllOut, copyOut, allocOut, createOut, revokeMade, revokeOut}
+use Rattle.space_reads.specs.Calls.{lookupOut, lookupEntryOut, checkRightsOut}
 use Rattle.space_laws.proofs.laws.CreateWays.{create-by-cases}
 use Rattle.steps.specs.Enter.{onSpace}
 use Rattle.steps.specs.Replies.{Left, refuse}

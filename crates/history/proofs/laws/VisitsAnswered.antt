@@ -15,8 +15,9 @@ use Rattle.revocation_calls.specs.Revoking.{revokingHeld}
 use Rattle.space.specs.Lookup.{lookedUp, gotEntry}
 use Rattle.space.specs.declared.LookedUp.{LookedUp}
 use Rattle.space_calls.specs.Calls as space
-use Rattle.space_calls.specs.Replies.{foundReply, heldReply, noEntry, entryReply}
-use Rattle.space_calls.specs.declared.EntryReply.{EntryReply}
+use Rattle.space_reads.specs.Calls as spaceReads
+use Rattle.space_reads.specs.Replies.{foundReply, heldReply, noEntry, entryReply}
+use Rattle.space_reads.specs.declared.EntryReply.{EntryReply}
 use Rattle.steps.proofs.laws.Entered.{space-called}
 use Rattle.steps.specs.Enter.{onSpace}
 use Rattle.steps.specs.Replies.{Left}
@@ -75,7 +76,7 @@ module _ (mem : List ℕ) (sound : Sound mem) (s : ℕ) (valid : s < numbersOf m
 
   pub visits-answered : VisitsOf mem s
   unfolding
-      space.lookupOut space.lookupEntryOut space.checkRightsOut space.getEntryOut space.removeOut space.revokeOut manager.checkOut
+      spaceReads.lookupOut spaceReads.lookupEntryOut spaceReads.checkRightsOut spaceReads.getEntryOut space.removeOut space.revokeOut manager.checkOut
       revocation.revokeHeldOut lookedUp gotEntry
   visits-answered = record {
     of-lookup = λ token. (

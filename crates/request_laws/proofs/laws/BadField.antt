@@ -31,7 +31,8 @@ use Rattle.space.specs.Change.{InsertOut, insertOut}
 use Rattle.space.specs.Lookup.{lookedUp}
 use Rattle.space.specs.Words.{generationOf}
 use Rattle.space_calls.specs.Calls as space
-use Rattle.space_calls.specs.Replies.{foundReply}
+use Rattle.space_reads.specs.Calls as spaceReads
+use Rattle.space_reads.specs.Replies.{foundReply}
 use Rattle.steps.proofs.laws.Cases.{when-by-cases}
 use Rattle.steps.proofs.laws.Entered.{space-by-cases}
 use Rattle.steps.specs.Enter.{onSpace}
@@ -106,8 +107,8 @@ module _ (mem : List ℕ) (sound : Sound mem) where
       go (delegate.refused g room none) = other _ (λ e. omega arith)
       go (delegate.accepted g room takes) = other _ (λ e. omega arith)
 
-  looks-up : (s token : ℕ) → Never (space.lookupOut mem s token)
-  unfolding space.lookupOut
+  looks-up : (s token : ℕ) → Never (spaceReads.lookupOut mem s token)
+  unfolding spaceReads.lookupOut
   looks-up s token =
       let l = lookedUp (spaceOf d s mem) token in
       on-space s _ (not-found (λ e. e .rights .0) (l .got) (l .visits))

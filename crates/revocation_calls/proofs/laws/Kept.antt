@@ -8,6 +8,7 @@ use Rattle.revocation.specs.LogLaws.{absent-exactly, absent-differ, absent-pair
 use Rattle.revocation_steps.specs.Revocation.{logOf, logStep}
 use Rattle.revocation_steps.proofs.laws.CascadeSteps.{revoke-step-kept}
 use Rattle.revocation_steps.proofs.laws.LogSteps.{log-step-kept}
+use Rattle.revocation_steps.proofs.Pairs.{pair-coded}
 use Rattle.steps.proofs.laws.Kept.{Kept, kept-refl, kept-trans}
 use Rattle.steps.proofs.laws.RegistrySteps.{add-step-kept}
 use Rattle.steps.specs.Steps.{addStep}
@@ -16,7 +17,6 @@ use Rattle.world.specs.Numbers.{loggedOf, epochWord}
 use Rattle.world.specs.Sound.{SoundAt}
 use Rattle.world.specs.declared.Numbers.{Numbers}
 use Rattle.revocation_calls.specs.Revoking.{loggingToken, revokingToken}
-use Rattle.revocation_calls.proofs.Pairs.{pair-coded}
 use Rattle.revocation_calls.proofs.laws.RevokingWays.{newPair, pairsWith, listing-leaves, token-leaves}
 
 module _ (d : Numbers) (mem : List ℕ) (sound : SoundAt d mem) (token : ℕ) where

@@ -24,7 +24,7 @@ use Rattle.world.specs.Numbers.{numbersOf}
 use Rattle.world.specs.Sound.{Sound}
 use Rattle.world.specs.declared.Numbers.{Numbers}
 use Rattle.notification_calls.specs.Calls.{notifyOut, noticesFor, peekOut, drainOut}
-use Rattle.revocation_calls.specs.Calls.{descendants, descendantsOut, reasonOut}
+use Rattle.revocation_reads.specs.Calls.{descendants, descendantsOut, reasonOut}
 use Rattle.revocation_laws.proofs.laws.NoticeWays.{NoPlace, HasPlace, TooShort, LongEnough, notify-by-cases, peek-by-cases, drain-peeks}
 
 -- ---- lists

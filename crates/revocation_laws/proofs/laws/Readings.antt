@@ -28,7 +28,7 @@ use Rattle.world.specs.Sound.{logPairs, pids, lengths, Sound}
 use Rattle.world.specs.declared.Numbers.{Numbers}
 use Rattle.notification_calls.specs.Calls.{notificationCountOut, noQueues, notificationStatsOut}
 use Rattle.notification_calls.specs.declared.QueuesReply.{QueuesReply}
-use Rattle.revocation_calls.specs.Calls.{isRevokedOut, epochOut}
+use Rattle.revocation_reads.specs.Calls.{isRevokedOut, epochOut}
 use Rattle.revocation_laws.proofs.laws.Queues.{listed-count}
 
 -- ---- the log

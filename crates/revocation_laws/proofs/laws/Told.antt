@@ -32,7 +32,8 @@ use Rattle.world.specs.Sound.{Sound}
 use Rattle.world.specs.declared.Numbers.{Numbers}
 use Rattle.notification_calls.specs.Calls.{notifyOut, noticesFor, peekOut, drainOut, notificationCountOut, cleanupOut, notificationStatsOut}
 use Rattle.notification_calls.specs.declared.QueuesReply.{QueuesReply}
-use Rattle.revocation_calls.specs.Calls.{revokeOut, revokeCapabilityOut, revokeHeldOut, revokeBatchOut, isRevokedOut, epochOut, descendants, descendantsOut}
+use Rattle.revocation_calls.specs.Calls.{revokeOut, revokeCapabilityOut, revokeHeldOut, revokeBatchOut}
+use Rattle.revocation_reads.specs.Calls.{isRevokedOut, epochOut, descendants, descendantsOut}
 use Rattle.revocation_calls.specs.Revoking.{revokingHeld}
 use Rattle.revocation_laws.proofs.laws.Ways.{Own, own-not, revoking-own, revoking-token-own, each-done}
 use Rattle.revocation_laws.proofs.laws.NoticeWays.{drain-peeks}

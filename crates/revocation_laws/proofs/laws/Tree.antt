@@ -27,7 +27,7 @@ use Rattle.world.specs.Numbers.{numbersOf, registeredOf}
 use Rattle.world.specs.Regions.{registry, view}
 use Rattle.world.specs.Sound.{ids, links, SoundAt}
 use Rattle.world.specs.declared.Numbers.{Numbers}
-use Rattle.revocation_calls.specs.Calls.{descendants, descendantsOut}
+use Rattle.revocation_reads.specs.Calls.{descendants, descendantsOut}
 use Rattle.revocation_laws.proofs.laws.Meaning.{Descends}
 
 -- The list has exactly the ids that descend from the id, but for itself, each once, and each behind its parent or a child of the id.

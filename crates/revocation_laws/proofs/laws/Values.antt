@@ -9,7 +9,7 @@ use Rattle.steps.specs.declared.Reply.{Reply}
 use Rattle.steps.proofs.laws.Entered.{world-by-cases}
 use Rattle.notification_calls.specs.Calls.{notificationCountOut, noQueues, notificationStatsOut}
 use Rattle.notification_calls.specs.declared.QueuesReply.{QueuesReply}
-use Rattle.revocation_calls.specs.Calls.{isRevokedOut, epochOut}
+use Rattle.revocation_reads.specs.Calls.{isRevokedOut, epochOut}
 
 abbrev NoValue : Reply → Type 0
 NoValue r = r .answer ≢ Done → r .value ≡ 0

@@ -17,8 +17,8 @@ use Rattle.table.specs.declared.Got.{Got}
 use Rattle.table.specs.declared.Got.the-variants.{Entry, Nothing}
 use Rattle.token.specs.Rights.{holds}
 use Rattle.world.specs.Numbers.{numbersOf}
-use Rattle.space_calls.specs.Calls.{checkRightsOut}
-use Rattle.space_calls.specs.Replies.{heldReply}
+use Rattle.space_reads.specs.Calls.{checkRightsOut}
+use Rattle.space_reads.specs.Replies.{heldReply}
 use Rattle.space_laws.proofs.laws.Holding.{Holding}
 
 -- An entry found, with the rights.

@@ -39,10 +39,11 @@ use Rattle.token.specs.declared.capability.Made.the-variants.{Token, Refused}
 use Rattle.world.specs.Numbers.{numbersOf}
 use Rattle.world.specs.Sound.{Sound}
 use Rattle.world.specs.declared.Numbers.{Numbers}
-use Rattle.space_calls.specs.Calls.{lookupOut, lookupEntryOut, checkRightsOut, insertCallOut, removeOut, incrementOut, clearOut, revokeAllOut, copyOut, allocOut, createMade, createTaken, createOut, revokeMade, revokeOut}
+use Rattle.space_calls.specs.Calls.{insertCallOut, removeOut, incrementOut, clearOut, revokeAllOut, copyOut, allocOut, createMade, createTaken, createOut, revokeMade, revokeOut}
+use Rattle.space_reads.specs.Calls.{lookupOut, lookupEntryOut, checkRightsOut}
 use Rattle.steps.specs.Replies.{Left}
-use Rattle.space_calls.specs.Replies.{wholeEntry, entryReply}
-use Rattle.space_calls.specs.declared.EntryReply.{EntryReply}
+use Rattle.space_reads.specs.Replies.{wholeEntry, entryReply}
+use Rattle.space_reads.specs.declared.EntryReply.{EntryReply}
 use Rattle.steps.specs.declared.Reply.{Reply}
 use Rattle.space_laws.proofs.laws.Elsewhere.{clear-only, revoke-all-only, copy-only}
 use Rattle.steps.proofs.laws.Entered.{world-by-cases, space-by-cases, space-called, done-made}

@@ -28,11 +28,12 @@ use Rattle.table.specs.declared.Got.the-variants.{Nothing}
 use Rattle.world.specs.Numbers.{numbersOf}
 use Rattle.world.specs.Sound.{SoundAt, Sound}
 use Rattle.world.specs.declared.Numbers.{Numbers}
-use Rattle.space_calls.specs.Calls.{factsOut, factOut, usedOut, capacityOut, lookupOut, clearOut, revokeAllOut, copyOut}
+use Rattle.space_calls.specs.Calls.{clearOut, revokeAllOut, copyOut}
+use Rattle.space_reads.specs.Calls.{factsOut, factOut, usedOut, capacityOut, lookupOut}
 use Rattle.steps.specs.Replies.{Left, replied, refuse, done}
 use Rattle.steps.specs.declared.Facts.{Facts}
 use Rattle.steps.specs.declared.Reply.{Reply}
-use Rattle.space_calls.specs.declared.FactsReply.{FactsReply}
+use Rattle.space_reads.specs.declared.FactsReply.{FactsReply}
 use Rattle.steps.proofs.laws.Entered.{done-made, space-called}
 use Rattle.steps.proofs.laws.OnlySpace.{lookup-step, next-step, clear-step, copy-step}
 

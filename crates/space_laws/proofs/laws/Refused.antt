@@ -31,12 +31,13 @@ use Rattle.token.specs.declared.capability.Made.the-variants.{Token, Refused}
 use Rattle.world.specs.Numbers.{numbersOf}
 use Rattle.world.specs.Sound.{Sound}
 use Rattle.world.specs.declared.Numbers.{Numbers}
-use Rattle.space_calls.specs.Calls.{factsOut, lookupOut, lookupEntryOut, checkRightsOut, getEntryOut, nthEntryOut, insertCallOut, removeOut, incrementOut, clearOut, revokeAllOut, copyOut, takenReply, allocOut, createMade, createTaken, createOut, revokeMade, revokeOut}
+use Rattle.space_calls.specs.Calls.{insertCallOut, removeOut, incrementOut, clearOut, revokeAllOut, copyOut, takenReply, allocOut, createMade, createTaken, createOut, revokeMade, revokeOut}
+use Rattle.space_reads.specs.Calls.{factsOut, lookupOut, lookupEntryOut, checkRightsOut, getEntryOut, nthEntryOut}
 use Rattle.steps.specs.Replies.{Left, refuse}
-use Rattle.space_calls.specs.Replies.{foundReply, heldReply, noEntry, entryReply, nthReply}
-use Rattle.space_calls.specs.declared.EntryReply.{EntryReply}
+use Rattle.space_reads.specs.Replies.{foundReply, heldReply, noEntry, entryReply, nthReply}
+use Rattle.space_reads.specs.declared.EntryReply.{EntryReply}
 use Rattle.steps.specs.declared.Reply.{Reply}
-use Rattle.space_calls.specs.declared.FactsReply.{FactsReply}
+use Rattle.space_reads.specs.declared.FactsReply.{FactsReply}
 use Rattle.steps.proofs.laws.Cases.{answerOf}
 use Rattle.steps.proofs.laws.Entered.{space-by-cases}
 use Rattle.steps.proofs.laws.Told.{Told, Inner, told, world-told, inner, inner-0}

@@ -37,10 +37,11 @@ use Rattle.token.specs.declared.capability.Made.{Made}
 use Rattle.world.specs.Numbers.{numbersOf, nextOf, recycledOf}
 use Rattle.world.specs.Sound.{Sound}
 use Rattle.world.specs.declared.Numbers.{Numbers}
-use Rattle.space_calls.specs.Calls.{factsOut, lookupOut, lookupEntryOut, checkRightsOut, getEntryOut, nthEntryOut, insertCallOut, removeOut, incrementOut, clearOut, revokeAllOut, copyOut, takenReply, allocOut, createMade, createTaken, createOut, revokeMade, revokeOut}
-use Rattle.space_calls.specs.Replies.{foundReply, heldReply, noEntry, entryReply, nthReply}
-use Rattle.space_calls.specs.declared.EntryReply.{EntryReply}
-use Rattle.space_calls.specs.declared.FactsReply.{FactsReply}
+use Rattle.space_calls.specs.Calls.{insertCallOut, removeOut, incrementOut, clearOut, revokeAllOut, copyOut, takenReply, allocOut, createMade, createTaken, createOut, revokeMade, revokeOut}
+use Rattle.space_reads.specs.Calls.{factsOut, lookupOut, lookupEntryOut, checkRightsOut, getEntryOut, nthEntryOut}
+use Rattle.space_reads.specs.Replies.{foundReply, heldReply, noEntry, entryReply, nthReply}
+use Rattle.space_reads.specs.declared.EntryReply.{EntryReply}
+use Rattle.space_reads.specs.declared.FactsReply.{FactsReply}
 use Rattle.space_laws.proofs.laws.Finding.{HasToken, HasId, token-by-cases, id-by-cases, nth-by-cases}
 use Rattle.space_laws.proofs.laws.Shapes.{On, Taking, told-on, told-0, Finds, finds-it, finds-none, FindsBelow, finds-over, below-it, below-none, Inserts, inserts, Creates, creates-none, creates-of}
 

@@ -37,9 +37,10 @@ use Rattle.world.specs.Numbers.{numbersOf}
 use Rattle.world.specs.Regions.{space, startOf, sizeOf}
 use Rattle.world.specs.Sound.{Sound}
 use Rattle.world.specs.declared.Numbers.{Numbers}
-use Rattle.space_calls.specs.Calls.{lookupOut, lookupEntryOut, checkRightsOut, insertCallOut, removeOut, incrementOut, clearOut, revokeAllOut, copyOut, takenReply, allocOut, createMade, createTaken, createOut, revokeMade, revokeOut}
+use Rattle.space_calls.specs.Calls.{insertCallOut, removeOut, incrementOut, clearOut, revokeAllOut, copyOut, takenReply, allocOut, createMade, createTaken, createOut, revokeMade, revokeOut}
+use Rattle.space_reads.specs.Calls.{lookupOut, lookupEntryOut, checkRightsOut}
 use Rattle.steps.specs.Replies.{Left, refuse}
-use Rattle.space_calls.specs.Replies.{foundReply}
+use Rattle.space_reads.specs.Replies.{foundReply}
 use Rattle.steps.specs.declared.Reply.{Reply}
 use Rattle.steps.proofs.laws.Entered.{world-by-cases, space-by-cases, space-called}
 

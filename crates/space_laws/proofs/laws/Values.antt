@@ -32,10 +32,12 @@ use Rattle.token.specs.declared.capability.Made.{Made}
 use Rattle.token.specs.declared.capability.Made.the-variants.{Token, Refused}
 use Rattle.world.specs.Numbers.{numbersOf}
 use Rattle.world.specs.declared.Numbers.{Numbers}
-use Rattle.space_calls.specs.Calls.{factsOut, lookupOut, lookupEntryOut, checkRightsOut, getEntryOut, nthEntryOut, insertCallOut, removeOut, incrementOut, clearOut, revokeAllOut, copyOut, takenReply, allocOut, createMade, createTaken, createOut, revokeMade, revokeOut}
-use Rattle.space_calls.specs.Replies.{foundReply, heldReply, noEntry, entryReply, nthReply, noFacts, insertReply}
-use Rattle.space_calls.specs.declared.EntryReply.{EntryReply}
-use Rattle.space_calls.specs.declared.FactsReply.{FactsReply}
+use Rattle.space_calls.specs.Calls.{insertCallOut, removeOut, incrementOut, clearOut, revokeAllOut, copyOut, takenReply, allocOut, createMade, createTaken, createOut, revokeMade, revokeOut}
+use Rattle.space_reads.specs.Calls.{factsOut, lookupOut, lookupEntryOut, checkRightsOut, getEntryOut, nthEntryOut}
+use Rattle.space_calls.specs.Replies.{insertReply}
+use Rattle.space_reads.specs.Replies.{foundReply, heldReply, noEntry, entryReply, nthReply, noFacts}
+use Rattle.space_reads.specs.declared.EntryReply.{EntryReply}
+use Rattle.space_reads.specs.declared.FactsReply.{FactsReply}
 
 -- ---- the three kinds of reply
 

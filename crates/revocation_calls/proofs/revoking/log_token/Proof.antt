@@ -11,6 +11,7 @@ use Rattle.answers.specs.declared.Answer.the-variants.{LogFull}
 use Rattle.base.specs.Choose.{when-yes, when-no}
 use Rattle.revocation.specs.Log.{pairOf, absentOf}
 use Rattle.revocation_steps.specs.Revocation.{logOf, logStep}
+use Rattle.revocation_steps.proofs.Pairs.{token-pair}
 use Rattle.steps.specs.Steps.{addStep}
 use Rattle.steps.proofs.Leaving.{left-is}
 use Rattle.steps.proofs.laws.Ready.{ready-at}
@@ -19,7 +20,6 @@ use Rattle.token.specs.Token.{idOf, generationOf}
 use Rattle.world.specs.Numbers.{loggedOf, epochWord}
 use Rattle.world.specs.declared.Numbers.{Numbers}
 use Rattle.revocation_calls.specs.Revoking.{loggingToken}
-use Rattle.revocation_calls.proofs.Pairs.{token-pair}
 use Rattle.revocation_calls.proofs.revoking.log_token.Statement.{statement}
 use Rattle.revocation_calls.proofs.revoking.log_token.Tie as tie
 

@@ -2,7 +2,7 @@
 use borrow.Author.Needs.{needs}
 use Rattle.steps.proofs.Entering.{enters}
 use Rattle.space_calls.specs.Calls.{removeOut}
-use Rattle.space_calls.proofs.Replying.{replies}
+use Rattle.space_reads.proofs.Replying.{replies}
 use Rattle.space_calls.proofs.changes.remove.Statement.{statement}
 use Rattle.space_calls.proofs.changes.remove.Tie as tie
 

@@ -3,7 +3,7 @@ use borrow.Author.Needs.{needs}
 use Rattle.steps.proofs.Entering.{enters}
 use Rattle.space_calls.specs.Calls.{revokeOut}
 use Rattle.space_calls.proofs.Making.{revokes}
-use Rattle.space_calls.proofs.Replying.{replies}
+use Rattle.space_reads.proofs.Replying.{replies}
 use Rattle.space_calls.proofs.ids.revoke.Statement.{statement}
 use Rattle.space_calls.proofs.ids.revoke.Tie as tie
 

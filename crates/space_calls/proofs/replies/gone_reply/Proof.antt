@@ -1,6 +1,6 @@
 -- Whether an entry was found.
 use borrow.Author.Needs.{needs}
-use Rattle.space_calls.proofs.Replying.{answers}
+use Rattle.space_reads.proofs.Replying.{answers}
 use Rattle.space_calls.proofs.replies.gone_reply.Statement.{statement}
 use Rattle.space_calls.proofs.replies.gone_reply.Tie as tie
 

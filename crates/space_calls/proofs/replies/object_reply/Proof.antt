@@ -1,6 +1,6 @@
 -- The entry that was found has the object.
 use borrow.Author.Needs.{needs}
-use Rattle.space_calls.proofs.Replying.{answers}
+use Rattle.space_reads.proofs.Replying.{answers}
 use Rattle.space_calls.proofs.replies.object_reply.Statement.{statement}
 use Rattle.space_calls.proofs.replies.object_reply.Tie as tie
 

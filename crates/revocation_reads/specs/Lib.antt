@@ -1,0 +1,2 @@
+-- What the contracts of `revocation_reads` cite.
+pub mod Calls
