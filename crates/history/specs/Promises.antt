@@ -89,7 +89,8 @@ Walked mem call visits = (w : Walk) × (Walks mem call w × (visits ≡ w .visit
 
 pub record VisitsOf (mem : List ℕ) (s : ℕ) : Type 0 where
   pub of-lookup : (token : ℕ) → Walked mem (changes (space-lookup s token)) (spaceReads.lookupOut mem s token .reply .count)
-  pub of-lookup-entry : (token : ℕ) → Walked mem (changes (space-lookup-entry s token)) (spaceReads.lookupEntryOut mem s token .reply .visits)
+  pub of-lookup-entry :
+      (token : ℕ) → Walked mem (changes (space-lookup-entry s token)) (spaceReads.lookupEntryOut mem s token .reply .visits)
   pub of-check-rights :
       (token required : ℕ)
       → Walked mem (changes (space-check-rights s token required)) (spaceReads.checkRightsOut mem s token required .reply .count)

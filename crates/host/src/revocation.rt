@@ -1,6 +1,6 @@
 // The calls of revocation and those for notifications, for a host: the memory, the process list and the tokens of a batch are slices of
-// words that the host lends, a token its word. Each is the call of the same name in `revocation_calls` or `notification_calls`, with its
-// answer as a number.
+// words that the host lends, a token its word. Each is the call of the same name in `revocation_reads`, `revocation_calls` or
+// `notification_calls`, with its answer as a number.
 ghost use mathlib.Core.Path.{_≡_};
 ghost use Rattle.notification_calls.specs.Calls.{notifyOut, drainOut, peekOut, notificationCountOut, cleanupOut, notificationStatsOut};
 ghost use Rattle.revocation_calls.specs.Calls.{revokeOut, revokeCapabilityOut, revokeHeldOut, revokeBatchOut};

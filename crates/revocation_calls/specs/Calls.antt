@@ -14,7 +14,8 @@ use Rattle.steps.specs.Steps.{spaceOf, lookupStep, placeIn}
 use Rattle.steps.specs.declared.Reply.{Reply}
 use Rattle.token.specs.Token.{idOf}
 use Rattle.world.specs.Numbers.{registeredOf}
-use Rattle.revocation_calls.specs.Revoking.{revoking, revokingToken, revokingHeld, revokingEach}
+use Rattle.cascade.specs.Cascade.{revoking}
+use Rattle.revocation_calls.specs.Revoking.{revokingToken, revokingHeld, revokingEach}
 
 -- The manager's `revoke`: 1 for an id that is not registered.
 unfoldable pub revokeOut : List ℕ → ℕ → ℕ → List ℕ → Left Reply

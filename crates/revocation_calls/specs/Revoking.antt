@@ -6,13 +6,13 @@ use Prim.Native.Nat.{ℕ, _+_}
 use lib.Dec.{eqb, ltb}
 use lib.ListN.{length}
 use Rattle.answers.specs.Number.{numberOf}
-use Rattle.answers.specs.declared.Answer.the-variants.{InsufficientRights, NotFound, LogFull, PidTableFull}
+use Rattle.answers.specs.declared.Answer.the-variants.{InsufficientRights, NotFound, LogFull}
 use Rattle.base.specs.Below.{one}
 use Rattle.base.specs.Choose.{pick, when}
-use Rattle.registry.specs.Words.{revoked}
+use Rattle.cascade.specs.Cascade.{revoking}
 use Rattle.revocation.specs.Log.{pairOf, absentOf}
 use Rattle.steps.specs.Replies.{Left, replied, done, refuse}
-use Rattle.revocation_steps.specs.Revocation.{logOf, logStep, freeQueues, carriedOut, queuesNeeded, cascade, cascadeIds, cascadePairs}
+use Rattle.revocation_steps.specs.Revocation.{logOf, logStep}
 use Rattle.steps.specs.Steps.{placeIn, addStep}
 use Rattle.steps.specs.declared.Reply.{Reply}
 use Rattle.table.specs.declared.Got.{Got}
@@ -20,22 +20,7 @@ use Rattle.table.specs.declared.Got.the-variants.{Entry, Nothing}
 use Rattle.token.specs.Rights.{REVOKE, holds}
 use Rattle.token.specs.Token.{idOf, generationOf}
 use Rattle.world.specs.Numbers.{registeredOf, loggedOf, epochWord}
-use Rattle.world.specs.Sound.{states}
 use Rattle.world.specs.declared.Numbers.{Numbers}
-
--- A cascade, given its places, their ids, and of their pairs those that the log has not. 24 where more new pairs are needed
--- than places free, then 25 where more new queues are, both before the registry, the log or the queues change.
-abbrev pub carryingOut : Numbers → List ℕ → List ℕ → List ℕ → ℕ → List ℕ → List ℕ → Left Reply
-carryingOut d places ids pairs time listed mem =
-    when (ltb (d .pairs) (loggedOf mem + length pairs)) (refuse mem LogFull)
-    (when (ltb (freeQueues d mem) (queuesNeeded d mem listed (length places))) (refuse mem PidTableFull)
-    (record { reply = done 0; memory = carriedOut d places ids pairs time listed mem }))
-
--- Place r is registered. Already revoked: 0, nothing changes.
-unfoldable pub revoking : Numbers → ℕ → ℕ → List ℕ → List ℕ → Left Reply
-revoking d r time listed mem =
-    when (eqb (revoked (states d mem r)) 1) (record { reply = done 0; memory = mem })
-    (carryingOut d (cascade d mem r) (cascadeIds d mem r) (cascadePairs d mem r) time listed mem)
 
 -- Unregistered: the token's pair joins the log if absent, epoch plus one, 0.
 unfoldable pub loggingToken : Numbers → ℕ → List ℕ → Left Reply

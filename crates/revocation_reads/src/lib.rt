@@ -1,6 +1,6 @@
-// What revocation says of itself: whether a token is in the log, the epoch, the descendants of an id, and the names of its reasons.
-// No call asks anything of its arguments or of the memory: each but `write_reason`, which has no memory, looks first, and refuses by document
-// 01's table.
+// What revocation says of itself: whether a token is in the log, the epoch, the descendants of an id, and the names of its reasons. No call
+// asks anything of its arguments or of the memory: each but `write_reason`, which has no memory, looks first, and refuses by document 01's
+// table.
 ghost use mathlib.Core.Path.{_≡_};
 ghost use Prim.Native.Nat.{_<_};
 ghost use Rattle.steps.specs.Replies.{intoArea};

@@ -24,7 +24,8 @@ use Rattle.revocation.specs.Log.{logHas, absentOf, appended}
 use Rattle.revocation.specs.Queue.{begun, noticesFrom, notices}
 use Rattle.revocation.specs.Sound.{queueTest, logTest}
 use Rattle.revocation_calls.specs.Calls.{revokeHeldOut}
-use Rattle.revocation_calls.specs.Revoking.{revoking, revokingToken}
+use Rattle.cascade.specs.Cascade.{revoking}
+use Rattle.revocation_calls.specs.Revoking.{revokingToken}
 use Rattle.revocation_steps.specs.Revocation.{logStep, notifyStep, notifyPids, notifyAll, freeQueues, newQueues}
 use Rattle.space.specs.Change.{inserted, insertOut}
 use Rattle.space.specs.Lookup.{exactly, lookedUp, counted}

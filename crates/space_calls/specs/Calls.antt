@@ -1,5 +1,5 @@
--- The calls that change a space: what each answers and leaves, on every memory and every argument. Document 01's order of refusals: 26, 20, 21,
--- then the source's.
+-- The calls that change a space: what each answers and leaves, on every memory and every argument. Document 01's order of refusals: 26,
+-- 20, 21, then the source's.
 use mathlib.Core.Bool.{not}
 use mathlib.Core.List.{List}
 use Prim.Native.Nat.{ℕ}

@@ -1,6 +1,6 @@
 // The calls that read a space: of space.rs's `CapabilitySpace` those that find entries, with `entries` and `iter_capabilities` as the n-th
-// entry, and those that say what the space is, on the world's memory. A lookup counts its hit or miss and the use of its entry; nothing else
-// changes. No call asks anything of its arguments or of the memory: each looks first, and refuses by document 01's table.
+// entry, and those that say what the space is, on the world's memory. A lookup counts its hit or miss and the use of its entry; nothing
+// else changes. No call asks anything of its arguments or of the memory: each looks first, and refuses by document 01's table.
 mod entries;
 mod facts;
 mod replies;

@@ -76,8 +76,8 @@ module _ (mem : List ℕ) (sound : Sound mem) (s : ℕ) (valid : s < numbersOf m
 
   pub visits-answered : VisitsOf mem s
   unfolding
-      spaceReads.lookupOut spaceReads.lookupEntryOut spaceReads.checkRightsOut spaceReads.getEntryOut space.removeOut space.revokeOut manager.checkOut
-      revocation.revokeHeldOut lookedUp gotEntry
+      spaceReads.lookupOut spaceReads.lookupEntryOut spaceReads.checkRightsOut spaceReads.getEntryOut space.removeOut space.revokeOut
+      manager.checkOut revocation.revokeHeldOut lookedUp gotEntry
   visits-answered = record {
     of-lookup = λ token. (
       seeking (spaceOf d s mem) (idOf token),

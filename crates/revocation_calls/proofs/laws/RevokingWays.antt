@@ -19,7 +19,8 @@ use Rattle.token.specs.Token.{idOf, generationOf}
 use Rattle.world.specs.Numbers.{registeredOf, loggedOf, epochWord}
 use Rattle.world.specs.Sound.{states}
 use Rattle.world.specs.declared.Numbers.{Numbers}
-use Rattle.revocation_calls.specs.Revoking.{revoking, loggingToken, revokingToken}
+use Rattle.cascade.specs.Cascade.{revoking}
+use Rattle.revocation_calls.specs.Revoking.{loggingToken, revokingToken}
 
 -- How many pairs the log has with those that a cascade from place r adds,
 abbrev pub pairsAfter : Numbers → List ℕ → ℕ → ℕ

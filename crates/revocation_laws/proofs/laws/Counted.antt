@@ -25,7 +25,8 @@ use Rattle.world.specs.Regions.{space, registry, queue, view}
 use Rattle.world.specs.Sound.{states, SoundAt}
 use Rattle.world.specs.Views.{view-other}
 use Rattle.world.specs.declared.Numbers.{Numbers}
-use Rattle.revocation_calls.specs.Revoking.{revoking, loggingToken, revokingToken}
+use Rattle.cascade.specs.Cascade.{revoking}
+use Rattle.revocation_calls.specs.Revoking.{loggingToken, revokingToken}
 use Rattle.revocation_calls.proofs.laws.RevokingWays.{pairsAfter, pairsWith}
 
 -- ---- what a revocation answers, by its tests

@@ -25,7 +25,8 @@ use Rattle.world.specs.Numbers.{numbersOf, registeredOf}
 use Rattle.world.specs.Sound.{states, Sound}
 use Rattle.world.specs.declared.Numbers.{Numbers}
 use Rattle.revocation_calls.specs.Calls.{revokeOut, revokeCapabilityOut, revokeHeldOut}
-use Rattle.revocation_calls.specs.Revoking.{revoking, loggingToken, revokingToken, revokingHeld}
+use Rattle.cascade.specs.Cascade.{revoking}
+use Rattle.revocation_calls.specs.Revoking.{loggingToken, revokingToken, revokingHeld}
 use Rattle.revocation_calls.proofs.laws.RevokingWays.{pairsAfter, revoking-by-cases, revoking-token-by-cases}
 use Rattle.revocation_laws.proofs.laws.Counted.{same-registered, same-registry}
 use Rattle.revocation_laws.proofs.laws.Ways.{revoke-by-cases, revoke-capability-by-cases, held-by-cases}

@@ -25,7 +25,7 @@ use Rattle.world.specs.Regions.{log, view}
 use Rattle.world.specs.Sound.{ids, states, links, recycled, logPairs, SoundAt, Sound}
 use Rattle.world.specs.declared.Numbers.{Numbers}
 use Rattle.revocation_calls.specs.Calls.{revokeOut, revokeCapabilityOut, revokeHeldOut}
-use Rattle.revocation_calls.specs.Revoking.{revoking}
+use Rattle.cascade.specs.Cascade.{revoking}
 use Rattle.revocation_laws.proofs.laws.Counted.{same-registry}
 use Rattle.revocation_laws.proofs.laws.Given.{Given, revoking-given, revoke-given, revoke-capability-given, held-given}
 

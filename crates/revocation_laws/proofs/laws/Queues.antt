@@ -36,7 +36,7 @@ use Rattle.world.specs.Sound.{lengths, SoundAt, Sound}
 use Rattle.world.specs.declared.Numbers.{Numbers}
 use Rattle.notification_calls.specs.Calls.{notifyOut, countFor, peekOut, without, drainOut, cleanupOut}
 use Rattle.revocation_calls.specs.Calls.{revokeOut, revokeCapabilityOut, revokeHeldOut}
-use Rattle.revocation_calls.specs.Revoking.{revoking}
+use Rattle.cascade.specs.Cascade.{revoking}
 use Rattle.revocation_laws.proofs.laws.Counted.{same-registered, same-registry, same-queues}
 use Rattle.revocation_laws.proofs.laws.Given.{revoking-given, revoke-given, revoke-capability-given, held-given, held-done}
 use Rattle.revocation_laws.proofs.laws.NoticeWays.{notify-by-cases, peek-by-cases, drain-by-cases, drain-peeks}

@@ -30,7 +30,8 @@ use Rattle.world.specs.declared.Numbers.{Numbers}
 use Rattle.notification_calls.specs.Calls.{notifyOut, peekOut, drainOut, cleanupOut}
 use Rattle.revocation_calls.specs.Calls.{revokeOut, revokeCapabilityOut, revokeHeldOut, revokeBatchOut}
 use Rattle.revocation_reads.specs.Calls.{descendants, descendantsOut, reasonOut}
-use Rattle.revocation_calls.specs.Revoking.{revoking, revokingToken, revokingHeld}
+use Rattle.cascade.specs.Cascade.{revoking}
+use Rattle.revocation_calls.specs.Revoking.{revokingToken, revokingHeld}
 use Rattle.revocation_calls.proofs.laws.RevokingWays.{revoking-by-cases, logging-by-cases, revoking-token-by-cases}
 use Rattle.revocation_laws.proofs.laws.Counted.{same-registered, same-registry}
 use Rattle.revocation_laws.proofs.laws.NoticeWays.{notify-by-cases, peek-by-cases, drain-by-cases, drain-peeks}

@@ -27,7 +27,8 @@ use Rattle.world.specs.Numbers.{numbersOf, registeredOf}
 use Rattle.world.specs.Sound.{Sound}
 use Rattle.world.specs.declared.Numbers.{Numbers}
 use Rattle.revocation_calls.specs.Calls.{revokeOut, revokeCapabilityOut, revokeHeldOut, revokeBatchOut}
-use Rattle.revocation_calls.specs.Revoking.{revoking, revokingToken, revokingHeld, revokingEach}
+use Rattle.cascade.specs.Cascade.{revoking}
+use Rattle.revocation_calls.specs.Revoking.{revokingToken, revokingHeld, revokingEach}
 use Rattle.revocation_calls.proofs.laws.RevokingWays.{revoking-by-cases, logging-by-cases, revoking-token-by-cases}
 
 -- ---- what a revocation answers: 0, 24 or 25

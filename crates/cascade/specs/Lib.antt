@@ -1,0 +1,2 @@
+-- What the contracts of `cascade` cite.
+pub mod Cascade
