@@ -1,6 +1,6 @@
 // The request stream for a host: a whole run over records that the host has read, on memory that it lends, as the program `stream` does it.
 ghost use mathlib.Core.Path.{_≡_};
-ghost use Rattle.request.specs.Run.{runOut};
+ghost use Rattle.request_run.specs.Run.{runOut};
 ghost use Rattle.host.specs.Replies.{told, areaAnswer};
 use super::replies::CallAnswer;
 use super::replies::answered;
@@ -13,5 +13,5 @@ pub extern "C" fn stonespry_run(records: &[u8], mem: &mut [u64], lines: &mut [u8
         ≡ told areaAnswer (runOut (now (records .entry)) (now (mem .entry)) (now (lines .entry)))
         ⌝ }
 {
-    answered(request::run::run(records, mem, lines))
+    answered(request_run::run(records, mem, lines))
 }

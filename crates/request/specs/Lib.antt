@@ -6,6 +6,3 @@ pub mod Made
 pub mod Laid
 pub mod Lines
 pub mod LinesLaws
-pub mod Run
-pub mod RunLaws
-pub mod ByRecord

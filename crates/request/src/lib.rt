@@ -1,12 +1,13 @@
-// The records of the request stream: the fields of one, which of them each operation reads, what is refused before a call is made, the call
-// and the line that is printed for it, and a whole run.
-mod calls;
+// The records of the request stream: the fields of one, which of them each operation reads, what is refused before a call is made, and the
+// line that is printed for it. The calls and a whole run are `request_run`.
 mod line;
 mod masks;
 mod record;
-pub mod run;
 
 use answers::Answer;
+pub use line::write_line;
+pub use masks::judge;
+pub use record::request_of;
 
 // A record, field by field; the flag of validity is a bit.
 pub struct Request {

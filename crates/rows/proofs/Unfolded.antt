@@ -19,7 +19,7 @@ use Rattle.request.specs.Lines.{decimal, hex, lineOf}
 use Rattle.request.specs.Made.{bytesOf, firstWord, recordOf}
 use Rattle.request.specs.Reading.{zeroUnread, tooFar, verdictOf}
 use Rattle.request.specs.Record.{wordFrom, requestOf}
-use Rattle.request.specs.Run.{drained, called1To5, called6To10, called11To15, called, answered, runFrom, wholeRun, runOut}
+use Rattle.request_run.specs.Run.{drained, called1To5, called6To10, called11To15, called, answered, runFrom, wholeRun, runOut}
 use Rattle.revocation.specs.Log.{logHas, absentOf, appended}
 use Rattle.revocation.specs.Queue.{begun, noticesFrom, notices}
 use Rattle.revocation.specs.Sound.{queueTest, logTest}

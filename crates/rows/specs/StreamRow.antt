@@ -7,8 +7,8 @@ use lib.ListN.{take, replicate}
 use Rattle.answers.specs.Number.{numberOf}
 use Rattle.base.specs.Choose.{both}
 use Rattle.request.specs.Made.{recordOf}
-use Rattle.request.specs.Run.{numbers, runOut}
 use Rattle.request.specs.declared.Request.{Request}
+use Rattle.request_run.specs.Run.{numbers, runOut}
 use Rattle.steps.specs.Replies.{Left, WithArea}
 use Rattle.world.specs.Regions.{lengthFor}
 use Rattle.rows.specs.Claims.{same}

@@ -52,10 +52,10 @@ use Rattle.world.specs.Sound.{Sound}
 use Rattle.world.specs.declared.Numbers.{Numbers}
 use Rattle.request.specs.Reading.{reads, verdictOf}
 use Rattle.request.specs.ReadingLaws.{good-exactly}
-use Rattle.request.specs.Run.{pids, drained, called1To5, called6To10, called11To15, called, judged, answered}
 use Rattle.request.specs.declared.Request.{Request}
 use Rattle.request.specs.declared.Verdict.{Verdict}
 use Rattle.request.specs.declared.Verdict.the-variants.{Good, Refused}
+use Rattle.request_run.specs.Run.{pids, drained, called1To5, called6To10, called11To15, called, judged, answered}
 use Rattle.request_laws.proofs.laws.Sound.{either}
 
 other : (a : Answer) → numberOf a ≢ 21 → a ≢ BadField

@@ -30,14 +30,14 @@ use Rattle.world.specs.Opened.{opened-numbers}
 use Rattle.world.specs.OpenedSound.{opened-sound}
 use Rattle.world.specs.Regions.{lengthFor}
 use Rattle.world.specs.Sound.{SoundAt, Sound}
-use Rattle.request.specs.ByRecord.{memoryAfter, replyAfter}
 use Rattle.request.specs.Reading.{verdictOf}
 use Rattle.request.specs.Record.{requestOf}
-use Rattle.request.specs.Run.{numbers, quotas, pids, drained, called1To5, called6To10, called11To15, called, judged, answered}
-use Rattle.request.specs.RunLaws.{request-small}
 use Rattle.request.specs.declared.Request.{Request}
 use Rattle.request.specs.declared.Verdict.{Verdict}
-use Rattle.request.proofs.laws.Room.{numbers-good}
+use Rattle.request_run.proofs.laws.Room.{numbers-good}
+use Rattle.request_run.specs.ByRecord.{memoryAfter, replyAfter}
+use Rattle.request_run.specs.Run.{numbers, quotas, pids, drained, called1To5, called6To10, called11To15, called, judged, answered}
+use Rattle.request_run.specs.RunLaws.{request-small}
 
 -- What holds of either way holds of the choice, whatever the test says.
 pub either : {A : Type 0} (P : A → Type 0) (b : Bool) (a rest : A) → P a → P rest → P (when b a rest)

@@ -1,3 +1,0 @@
--- What the proofs of `request` share.
-pub mod Chosen
-pub mod laws

@@ -1,0 +1,3 @@
+-- What the proofs of `request_run` share.
+pub mod Chosen
+pub mod laws
