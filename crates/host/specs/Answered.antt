@@ -10,7 +10,7 @@ use Rattle.token.specs.declared.flags.Combined.{Combined}
 use Rattle.token.specs.declared.flags.Combined.the-variants.{Flags}
 use Rattle.token.specs.declared.flags.Named.{Named}
 use Rattle.token.specs.declared.flags.Named.the-variants.{Flag}
-use Rattle.world.specs.Open.{Answered}
+use Rattle.world.specs.Open.{OpenOut}
 use Rattle.host.specs.declared.flags.FlagsAnswer.{FlagsAnswer}
 use Rattle.host.specs.declared.flags.HasAnswer.{HasAnswer}
 use Rattle.host.specs.declared.tokens.TokenAnswer.{TokenAnswer}
@@ -32,5 +32,5 @@ pub record Numbered : Type 0 where
   pub answer : ℕ
   pub memory : List ℕ
 
-unfoldable pub numbered : Answered → Numbered
+unfoldable pub numbered : OpenOut → Numbered
 numbered left = record { answer = numberOf (left .answer); memory = left .memory }

@@ -18,7 +18,7 @@ use Rattle.world.specs.Regions.{head, space, queue, lengthFor, onRegion,
 use Rattle.world.specs.declared.Numbers.{Numbers}
 
 -- An answer and the memory that the call leaves.
-pub record Answered : Type 0 where
+pub record OpenOut : Type 0 where
   pub answer : Answer
   pub memory : List ℕ
 
@@ -52,7 +52,7 @@ unfoldable pub recordTest : Numbers → List ℕ → Bool
 recordTest d quotas =
     both (inRangeTest d) (both (eqb (length quotas) (d .spaces)) (all (length quotas) (λ s. leb (getD quotas s 0) (d .most))))
 
-unfoldable pub opening : Numbers → List ℕ → List ℕ → Answered
+unfoldable pub opening : Numbers → List ℕ → List ℕ → OpenOut
 opening d quotas mem =
     when (not (recordTest d quotas)) (record { answer = BadField; memory = mem })
     (when (not (leb (lengthFor d) (length mem))) (record { answer = BadWorld; memory = mem })

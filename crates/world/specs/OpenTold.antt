@@ -10,14 +10,14 @@ use native.Mathlib.Omega.{arith}
 use lib.ListN.{length}
 use Rattle.answers.specs.Number.{numberOf}
 use Rattle.answers.specs.declared.Answer.the-variants.{Done, BadField, BadWorld}
-use Rattle.world.specs.Open.{Answered, Good, recordTest, opened, opening, good, good-test, opening-21, opening-26, opening-0}
+use Rattle.world.specs.Open.{OpenOut, Good, recordTest, opened, opening, good, good-test, opening-21, opening-26, opening-0}
 use Rattle.world.specs.Regions.{lengthFor}
 use Rattle.world.specs.declared.Numbers.{Numbers}
 
 module _ (d : Numbers) (quotas mem : List ℕ) where
   -- What holds of each of the three ways holds of the opening.
   pub opening-by-cases :
-      (P : Answered → Type 0) → (¬ Good d quotas → P (record { answer = BadField; memory = mem }))
+      (P : OpenOut → Type 0) → (¬ Good d quotas → P (record { answer = BadField; memory = mem }))
       → (Good d quotas → length mem < lengthFor d → P (record { answer = BadWorld; memory = mem }))
       → (Good d quotas → lengthFor d ≤ length mem → P (record { answer = Done; memory = opened d quotas mem }))
       → P (opening d quotas mem)

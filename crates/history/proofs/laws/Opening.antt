@@ -10,7 +10,7 @@ use lib.Dec.{eqb}
 use lib.ListN.{length}
 use Rattle.answers.specs.Number.{numberOf}
 use Rattle.answers.specs.declared.Answer.the-variants.{Done}
-use Rattle.world.specs.Open.{Answered, opened, opening, good-test}
+use Rattle.world.specs.Open.{OpenOut, opened, opening, good-test}
 use Rattle.world.specs.OpenTold.{opening-by-cases, open-unchanged}
 use Rattle.world.specs.Opened.{opened-length, opened-past, opened-numbers}
 use Rattle.world.specs.OpenedSound.{opened-sound}
@@ -37,7 +37,7 @@ module _ (d : Numbers) (quotas mem : List ℕ) where
 
   pub opening-opens : opening d quotas mem .answer ≡ Done → Opened (opening d quotas mem .memory)
   opening-opens =
-      opening-by-cases d quotas mem (λ (out : Answered). out .answer ≡ Done → Opened (out .memory))
+      opening-by-cases d quotas mem (λ (out : OpenOut). out .answer ≡ Done → Opened (out .memory))
       (λ bad e. absurd (omega (arith, ap numberOf e)))
       (λ good short e. absurd (omega (arith, ap numberOf e)))
       (λ good long e. record {
@@ -57,7 +57,7 @@ module _ (d : Numbers) (quotas mem : List ℕ) where
 
   pub opening-lasts : Sound mem → Lasts mem (opening d quotas mem .memory)
   opening-lasts sound =
-      opening-by-cases d quotas mem (λ (out : Answered). Lasts mem (out .memory)) (λ bad. lasts-refl mem sound)
+      opening-by-cases d quotas mem (λ (out : OpenOut). Lasts mem (out .memory)) (λ bad. lasts-refl mem sound)
       (λ good short. lasts-refl mem sound)
       (λ good long. record {
         sound = opened-sound d quotas mem long (good-test d quotas good);

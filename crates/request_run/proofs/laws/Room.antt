@@ -32,8 +32,8 @@ unfolding runOut
 run-given-room bytes mem area long fits =
     let is = world.opening-0 numbers quotas mem numbers-good long in
     when-no _ _ _ (le-ltb (length area) (28 * linesFor (length bytes)) fits)
-    ∙ when-no _ _ _ (ap (λ (o : world.Answered). not (eqb (numberOf (o .answer)) 0)) is)
-    ∙ ap (λ (o : world.Answered). laidOut (wholeRun bytes (o .memory)) area) is
+    ∙ when-no _ _ _ (ap (λ (o : world.OpenOut). not (eqb (numberOf (o .answer)) 0)) is)
+    ∙ ap (λ (o : world.OpenOut). laidOut (wholeRun bytes (o .memory)) area) is
 
 -- ---- the program
 

@@ -46,13 +46,13 @@ module _ (bytes mem area : List ℕ) (few : ℕ) (reply : Reply) (most : few ≡
       enough = rw most at fits
 
       is-named : numberOf (world.opening numbers quotas mem .answer) ≡ n
-      is-named = sym (ap (λ (o : world.Answered). numberOf (o .answer)) is-open) ∙ sym named
+      is-named = sym (ap (λ (o : world.OpenOut). numberOf (o .answer)) is-open) ∙ sym named
 
       refuses-open : n ≢ 0 → reply ≡ refusal opened → all reply area after ≡ runOut bytes mem area
       unfolding runOut
       refuses-open bad told =
           ap (λ r. all r area after) told
-          ∙ ap (λ (o : world.Answered). unwritten (o .answer) (o .memory) area) is-open
+          ∙ ap (λ (o : world.OpenOut). unwritten (o .answer) (o .memory) area) is-open
           ∙ sym (when-no _ _ _ (le-ltb (length area) (28 * linesFor (length bytes)) enough)
           ∙ when-yes _ _ _ (ap not (ne-eqb _ 0 (λ e. bad (sym is-named ∙ e)))))
 
@@ -65,7 +65,7 @@ module _ (bytes mem area : List ℕ) (few : ℕ) (reply : Reply) (most : few ≡
       unfolding runOut
       runs last longer behind good ran told =
           alike reply _ longer _ last _ (told ∙ ap done (ran .text .place ∙ zero-add _)) (laid-front _ _ _ _ (ran .text)) (ran .memory)
-          ∙ ap (λ (o : world.Answered). laidOut (wholeRun bytes (o .memory)) area) is-open
+          ∙ ap (λ (o : world.OpenOut). laidOut (wholeRun bytes (o .memory)) area) is-open
           ∙ sym (when-no _ _ _ (le-ltb (length area) (28 * linesFor (length bytes)) enough)
           ∙ when-no _ _ _ (ap not (eq-eqb _ 0 (is-named ∙ good))))
 

@@ -5,12 +5,12 @@ use Prim.Native.Nat.{ℕ}
 use borrow.Author.Needs.{needs}
 use Rattle.answers.specs.Number.{numberOf}
 use Rattle.answers.specs.declared.Answer.{Answer}
-use Rattle.world.specs.Open.{Answered}
+use Rattle.world.specs.Open.{OpenOut}
 use Rattle.host.specs.Answered.{numbered}
 use Rattle.host.proofs.worlds.stonespry_open.Statement.{statement}
 use Rattle.host.proofs.worlds.stonespry_open.Tie as tie
 
-as-number : (answer : Answer) (n : ℕ) (memory : List ℕ) (left : Answered) → record { answer = answer; memory = memory } ≡ left
+as-number : (answer : Answer) (n : ℕ) (memory : List ℕ) (left : OpenOut) → record { answer = answer; memory = memory } ≡ left
     → n ≡ numberOf answer → record { answer = n; memory = memory } ≡ numbered left
 unfolding numbered
 as-number answer n memory left opened number = rw number (ap numbered opened)
