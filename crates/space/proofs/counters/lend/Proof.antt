@@ -13,16 +13,16 @@ use base.Logic.{SProp, ent, sep, emp, guard, via, fst∗, snd∗, exE, id⊢, gu
 use base.Fml.{Fml, GName, Lft, Share, ftrue, fat, fsep, flft, flent, fres}
 use prog.Memory.{Memory}
 use prog.Routine.{Routine}
-use prog.Wp.{Heap, Calls, Loops, WpFn, Tables}
+use prog.Wp.{Heap, Calls, Loops, WpFn}
 use ghost.Atoms.{Atoms, sem}
 use contract.Monad.{Fun, fact, fact-use}
-use contract.Running.{givenOf, tables, tablesOf}
+use contract.Running.{givenOf}
 use types.Kit.{Given, Item, ‵, raw, _⊛_, ⋆, some, later, given, _$_, _∵_, !, qed, by, move, keep, drop, use1, use3, rewrite, split, join, learn, pick, fsplit, fjoin, fpick, fpack, suffices, frame, await, done}
 use types.Run.{look, init, forget, stop, from, load, addr, of-opd, and-then, no-more, assigns, land, returns, enter, alloc1, alloc0, params1, pass1, pass0, free1, free0}
 use types.Part.{agg}
 use types.SemTy.{Body}
 use types.Tokens.{lft-new, lft-end}
-use sound.WpLaws.{FmC, fmOf, WpFn-mono}
+use sound.WpLaws.{FmC}
 use denote.RattleType.{RattleType, owns}
 use denote.Laws.{Is}
 use denote.Lend.{lends-ref, ref-back}
@@ -36,9 +36,9 @@ use denote.Struct.Laws as LL
 use denote.Triple.Statement.{Contract, Triple}
 use denote.Triple.Call.{calls-at}
 use denote.Triple.Entry.{onEntry}
-use denote.Triple.Spec.{Meets, tripleOf}
-use denote.Triple.Table.{entered, cited}
-use denote.Triple.Walked.{says, needs, Stays, stay-none, stay-none-slice, walkOf, goes-none, goes-none-slice, Walks, ends-at, walked, walk-meets}
+use denote.Triple.Spec.{tripleOf}
+use denote.Triple.Table.{cited}
+use denote.Triple.Walked.{says, needs, Stays, stay-none, stay-none-slice, walkOf, goes-none, goes-none-slice, Walks, ends-at, walked}
 use denote.Exit.{yes}
 use denote.Triple.Clauses.{ensured, lasts}
 use Rattle.table.specs.declared.Search.{Search}
@@ -47,7 +47,7 @@ use Rattle.space.specs.Words.{InRange}
 use Rattle.space.specs.Counters.{searchAnd, countedSearch}
 use Rattle.space.specs.declared.counters.CountedSearch.{CountedSearch}
 use Rattle.space.specs.declared.counters.Counters.{Counters}
-use Rattle.space.proofs.Walk.{rowOf, valueOf, fits, known, anew, spelled, counters, tokens, searches, counted-searches}
+use Rattle.space.proofs.Walk.{rowOf, valueOf, fits, known, anew, spelled, by-walk, counters, tokens, searches, counted-searches}
 use Rattle.space.proofs.counters.lookup_counted as lookup
 use Rattle.space.proofs.counters.lookup_counted.Symbol as lookup-def
 use Rattle.space.proofs.counters.lookup_counted.Symbol.{name as #lookup}
@@ -267,22 +267,15 @@ module _ {M : Type 1} (𝓤 : URA M) (H : Heap 𝓤) (A : Atoms 𝓤) (W : Given
       (λ κs qs bounds a _ are. needs 𝓤 _ _ (λ range.
       walk (κs .0) (qs .0) (a .0) (a .1 .0) (a .1 .1 .0) C Λ fm meets range (are .0) (are .1 .0) (are .1 .1 .0)))
 
-  lend-meets : (𝓣 : Tables 𝓤 H) → Triple 𝓤 (𝓣 .C #lookup) Lookup
-      → Meets 𝓤 H A lend.signature (WpFn 𝓤 H (𝓣 .C) (𝓣 .Λ) code.function) (lend.spec 𝓤 H A at-mem run)
-  lend-meets 𝓣 meets =
-      walk-meets 𝓤 H A lend.ended stayed W (
-        goes-none-slice 𝓤 H A W 1 (0 ∷ []) tt (plain (λ _. u64)) yes,
-        (goes-none 𝓤 H A W 1 (λ _. Tok) yes (λ κs x f. refl), (goes-none 𝓤 H A W 1 (λ _. R) yes (λ κs x f. refl), tt)),
-      )
-      (lend.clauses 𝓤 H A at-mem run) (WpFn 𝓤 H (𝓣 .C) (𝓣 .Λ) code.function) (WpFn-mono 𝓤 H (W .laws) 𝓣 code.function)
-      (walks (𝓣 .C) (𝓣 .Λ) (fmOf 𝓤 H (W .laws) 𝓣) meets)
-
 pub lend-spec : {M : Type 1} → stated.statement M
-unfolding code.routine tablesOf
+unfolding code.routine
 lend-spec 𝓤 H 𝓜 𝓖 𝓡 =
+    let A = 𝓖 .A in
     let W = givenOf 𝓤 H 𝓜 𝓖 in
-    entered 𝓤 H (tripleOf 𝓤 H (𝓖 .A) lend.signature (lend.spec 𝓤 H (𝓖 .A) (𝓜 .mem) (𝓡 .run)))
-    (tables 𝓤 H 𝓜 𝓡 code.env .C) (tables 𝓤 H 𝓜 𝓡 code.env .Λ) #lend code.function (code.unfolded 𝓤 H 𝓜 𝓡)
-    (lend-meets 𝓤 H (𝓖 .A) W (𝓜 .mem) (𝓡 .run) (tablesOf 𝓤 H 𝓜 (tables 𝓤 H 𝓜 𝓡 code.env))
-    (cited 𝓤 H (Lookup 𝓤 H (𝓖 .A) W (𝓜 .mem) (𝓡 .run)) 𝓜 𝓡 code.env #lookup lookup-def.routine
-    code.calls-space·counters·lookup-counted (lookup-thm.met 𝓤 H 𝓜 𝓖 𝓡)))
+    by-walk 𝓤 H 𝓜 𝓖 𝓡 code.env #lend code.function lend.ended stayed (lend.clauses 𝓤 H A (𝓜 .mem) (𝓡 .run)) (code.unfolded 𝓤 H 𝓜 𝓡) (
+      goes-none-slice 𝓤 H A W 1 (0 ∷ []) tt (plain (λ _. u64)) yes,
+      (goes-none 𝓤 H A W 1 (λ _. Tok) yes (λ κs x f. refl), (goes-none 𝓤 H A W 1 (λ _. R) yes (λ κs x f. refl), tt)),
+    )
+    (λ fm. walks 𝓤 H A W (𝓜 .mem) (𝓡 .run) _ _ fm
+    (cited 𝓤 H (Lookup 𝓤 H A W (𝓜 .mem) (𝓡 .run)) 𝓜 𝓡 code.env #lookup lookup-def.routine code.calls-space·counters·lookup-counted
+    (lookup-thm.met 𝓤 H 𝓜 𝓖 𝓡)))

@@ -13,13 +13,13 @@ use base.Logic.{SProp, ent, sep, emp, via, fst∗, snd∗, exE, id⊢}
 use base.Fml.{Fml, GName, Lft, Share, ftrue, flft, fres}
 use prog.Memory.{Memory}
 use prog.Routine.{Routine}
-use prog.Wp.{Heap, Calls, Loops, WpFn, Tables}
+use prog.Wp.{Heap, Calls, Loops, WpFn}
 use ghost.Atoms.{Atoms, sem}
 use contract.Monad.{Fun, fact, fact-use}
-use contract.Running.{givenOf, tables, tablesOf}
+use contract.Running.{givenOf}
 use types.Kit.{Given, Item, ‵, raw, _⊛_, ⋆, some, later, _$_, _∵_, !, qed, by, move, keep, drop, use1, use2, use3, split, join, pick, fsplit, fsplit3, fjoin, feqL, suffices, frame, await, done}
 use types.Run.{look, init, forget, stop, hop, from, load, addr, of-opd, and-then, no-more, assigns, land, returns, enter, alloc1, alloc0, params1, pass1, pass0, free1, free0}
-use sound.WpLaws.{FmC, fmOf, WpFn-mono}
+use sound.WpLaws.{FmC}
 use denote.RattleType.{RattleType, owns}
 use denote.Laws.{Is, shows}
 use denote.Plain.{Nothing, bool-lawful}
@@ -32,9 +32,9 @@ use denote.Struct.Laws as LL
 use denote.Triple.Statement.{Contract, Triple}
 use denote.Triple.Call.{calls-at}
 use denote.Triple.Entry.{onEntry}
-use denote.Triple.Spec.{Meets, tripleOf}
-use denote.Triple.Table.{entered, cited}
-use denote.Triple.Walked.{says, needs, Stays, gave-ref, stay-none, stay-none-slice, walkOf, goes-none, goes-none-slice, goes-gave-ref, Walks, ends-at, walked, walk-meets}
+use denote.Triple.Spec.{tripleOf}
+use denote.Triple.Table.{cited}
+use denote.Triple.Walked.{says, needs, Stays, gave-ref, stay-none, stay-none-slice, walkOf, goes-none, goes-none-slice, goes-gave-ref, Walks, ends-at, walked}
 use denote.Exit.{yes}
 use denote.Triple.Clauses.{ensured, lasts}
 use Rattle.table.specs.declared.Search.{Search}
@@ -43,7 +43,7 @@ use Rattle.space.specs.Words.{InRange}
 use Rattle.space.specs.Lookup.{isFound, exactSearch}
 use Rattle.space.specs.Counters.{oneCounted, searchAnd, countedSearch}
 use Rattle.space.specs.declared.counters.Counters.{Counters}
-use Rattle.space.proofs.Walk.{rowOf, valueOf, fits, known, anew, counters, tokens, searches}
+use Rattle.space.proofs.Walk.{rowOf, valueOf, fits, known, anew, by-walk, counters, tokens, searches}
 use Rattle.space.proofs.find.exact as exact
 use Rattle.space.proofs.find.exact.Symbol as exact-def
 use Rattle.space.proofs.find.exact.Symbol.{name as #exact}
@@ -253,27 +253,19 @@ module _ {M : Type 1} (𝓤 : URA M) (H : Heap 𝓤) (A : Atoms 𝓤) (W : Given
       (a .1 .1 .0 .now)
       C Λ fm exact-meets is-found-meets count-meets range (are .0) (are .1 .0)))
 
-  lookup-meets : (𝓣 : Tables 𝓤 H)
-      → Triple 𝓤 (𝓣 .C #exact) Exact → Triple 𝓤 (𝓣 .C #is-found) IsFound → Triple 𝓤 (𝓣 .C #count) Count
-      → Meets 𝓤 H A lookup.signature (WpFn 𝓤 H (𝓣 .C) (𝓣 .Λ) code.function) (lookup.spec 𝓤 H A at-mem run)
-  lookup-meets 𝓣 exact-meets is-found-meets count-meets =
-      walk-meets 𝓤 H A lookup.ended stayed W (
-        goes-none-slice 𝓤 H A W 2 (0 ∷ []) tt (plain (λ _. u64)) yes,
-        (goes-none 𝓤 H A W 2 (λ _. Tok) yes (λ κs x f. refl), (goes-gave-ref 𝓤 H A W 2 1 tt (plain (λ _. R)), tt)),
-      )
-      (lookup.clauses 𝓤 H A at-mem run) (WpFn 𝓤 H (𝓣 .C) (𝓣 .Λ) code.function) (WpFn-mono 𝓤 H (W .laws) 𝓣 code.function)
-      (walks (𝓣 .C) (𝓣 .Λ) (fmOf 𝓤 H (W .laws) 𝓣) exact-meets is-found-meets count-meets)
-
 pub lookup-counted-spec : {M : Type 1} → stated.statement M
-unfolding code.routine tablesOf
+unfolding code.routine
 lookup-counted-spec 𝓤 H 𝓜 𝓖 𝓡 =
+    let A = 𝓖 .A in
     let W = givenOf 𝓤 H 𝓜 𝓖 in
-    entered 𝓤 H (tripleOf 𝓤 H (𝓖 .A) lookup.signature (lookup.spec 𝓤 H (𝓖 .A) (𝓜 .mem) (𝓡 .run)))
-    (tables 𝓤 H 𝓜 𝓡 code.env .C) (tables 𝓤 H 𝓜 𝓡 code.env .Λ) #lookup code.function (code.unfolded 𝓤 H 𝓜 𝓡)
-    (lookup-meets 𝓤 H (𝓖 .A) W (𝓜 .mem) (𝓡 .run) (tablesOf 𝓤 H 𝓜 (tables 𝓤 H 𝓜 𝓡 code.env))
-    (cited 𝓤 H (Exact 𝓤 H (𝓖 .A) W (𝓜 .mem) (𝓡 .run)) 𝓜 𝓡 code.env #exact exact-def.routine
-    code.calls-space·find·exact (exact-thm.met 𝓤 H 𝓜 𝓖 𝓡))
-    (cited 𝓤 H (IsFound 𝓤 H (𝓖 .A) W (𝓜 .mem) (𝓡 .run)) 𝓜 𝓡 code.env #is-found is-found-def.routine
-    code.calls-space·find·is-found (is-found-thm.met 𝓤 H 𝓜 𝓖 𝓡))
-    (cited 𝓤 H (Count 𝓤 H (𝓖 .A) W (𝓜 .mem) (𝓡 .run)) 𝓜 𝓡 code.env #count count-def.routine
-    code.calls-space·counters·count (count-thm.met 𝓤 H 𝓜 𝓖 𝓡)))
+    by-walk 𝓤 H 𝓜 𝓖 𝓡 code.env #lookup code.function lookup.ended stayed (lookup.clauses 𝓤 H A (𝓜 .mem) (𝓡 .run)) (code.unfolded 𝓤 H 𝓜 𝓡) (
+      goes-none-slice 𝓤 H A W 2 (0 ∷ []) tt (plain (λ _. u64)) yes,
+      (goes-none 𝓤 H A W 2 (λ _. Tok) yes (λ κs x f. refl), (goes-gave-ref 𝓤 H A W 2 1 tt (plain (λ _. R)), tt)),
+    )
+    (λ fm. walks 𝓤 H A W (𝓜 .mem) (𝓡 .run) _ _ fm
+    (cited 𝓤 H (Exact 𝓤 H A W (𝓜 .mem) (𝓡 .run)) 𝓜 𝓡 code.env #exact exact-def.routine code.calls-space·find·exact
+    (exact-thm.met 𝓤 H 𝓜 𝓖 𝓡))
+    (cited 𝓤 H (IsFound 𝓤 H A W (𝓜 .mem) (𝓡 .run)) 𝓜 𝓡 code.env #is-found is-found-def.routine code.calls-space·find·is-found
+    (is-found-thm.met 𝓤 H 𝓜 𝓖 𝓡))
+    (cited 𝓤 H (Count 𝓤 H A W (𝓜 .mem) (𝓡 .run)) 𝓜 𝓡 code.env #count count-def.routine code.calls-space·counters·count
+    (count-thm.met 𝓤 H 𝓜 𝓖 𝓡)))
