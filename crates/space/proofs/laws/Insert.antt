@@ -7,6 +7,7 @@ use Prim.Native.Nat.{ℕ, _≤_, _<_}
 use native.Mathlib.Omega.{arith}
 use borrow.Author.Tests.{leb-true, leb-false}
 use lib.Dec.{leb}
+use Rattle.answers.specs.Number.{numberOf}
 use Rattle.answers.specs.declared.Answer.the-variants.{Done, AlreadyExists, SpaceQuota}
 use Rattle.base.specs.Choose.{when}
 use Rattle.table.specs.Slots.{idOf}
@@ -36,6 +37,12 @@ module _ (sp : List ℕ) (e : CapabilityEntry) where
       go true b f found = over (leb-true (quotaOf sp) (tableOf sp .full) b)
       go false b (At i) found = there i (leb-false (quotaOf sp) (tableOf sp .full) b) found
       go false b Absent found = fresh (record { under = leb-false (quotaOf sp) (tableOf sp .full) b; absent = found })
+
+  -- Of an insert's answers, 0 alone is `Done`.
+  pub zero-is-done : numberOf (insertOut sp e .answer) ≡ 0 → insertOut sp e .answer ≡ Done
+  zero-is-done =
+      insert-by-cases (λ o. numberOf (o .answer) ≡ 0 → o .answer ≡ Done) (λ over z. absurd (omega arith))
+      (λ i under there z. absurd (omega arith)) (λ a z. refl)
 
   -- An insert that answers 0 was accepted.
   pub done-accepts : insertOut sp e .answer ≡ Done → Accepts × (insertOut sp e ≡ accepted sp e)

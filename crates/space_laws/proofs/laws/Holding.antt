@@ -19,7 +19,7 @@ use Rattle.space.specs.Sound.{SpaceOf}
 use Rattle.space.specs.Words.{generationOf}
 use Rattle.space.proofs.laws.Counted.{used, found-again, others-as-before-lookup}
 use Rattle.space.proofs.laws.Held.{has-as, got-exactly, answered-as-before, insert-holds, inserted-is-found, others-as-before-remove}
-use Rattle.space.proofs.laws.Insert.{refused-changes-nothing}
+use Rattle.space.proofs.laws.Insert.{zero-is-done, refused-changes-nothing}
 use Rattle.space.proofs.laws.Kept.{fits, insert-keeps, next-keeps}
 use Rattle.space.proofs.laws.View.{view-next}
 use Rattle.steps.specs.Enter.{onSpace}
@@ -50,7 +50,6 @@ use Rattle.steps.proofs.laws.Entered.{world-by-cases, space-by-cases, space-cal
 use Rattle.steps.proofs.laws.OnlyIds.{take-step}
 use Rattle.steps.proofs.laws.OnlySpace.{OnlySpace, Step, lookup-step, next-step, insert-step, remove-step}
 use Rattle.space_laws.proofs.laws.Sound.{clear-keeps, revoke-all-keeps, copy-keeps}
-use Rattle.space_laws.proofs.laws.Unchanged.{zero-is-done}
 
 -- Space s of a sound memory has the entry x under the token.
 pub record Holding (mem : List ℕ) (s token : ℕ) (x : CapabilityEntry) : Type 0 where

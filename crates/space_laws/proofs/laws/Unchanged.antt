@@ -16,7 +16,7 @@ use Rattle.base.specs.Part.{onPart-same}
 use Rattle.space.specs.Change.{InsertOut, insertOut, removedFound, removedToken}
 use Rattle.space.specs.Lookup.{exactly, lookedUp}
 use Rattle.space.specs.Words.{generationOf, slotWords}
-use Rattle.space.proofs.laws.Insert.{insert-by-cases}
+use Rattle.space.proofs.laws.Insert.{insert-by-cases, zero-is-done}
 use Rattle.steps.specs.Enter.{onSpace}
 use Rattle.steps.specs.Steps.{spaceOf, isEntry, insertStep, removeStep, takenId, takeStep, newEntry}
 use Rattle.steps.specs.declared.Taken.{Taken}
@@ -45,12 +45,6 @@ use Rattle.steps.specs.declared.Reply.{Reply}
 use Rattle.steps.proofs.laws.Entered.{world-by-cases, space-by-cases, space-called}
 
 -- ---- the steps
-
--- Of an insert's answers, 0 alone is `Done`.
-pub zero-is-done : (sp : List ℕ) (e : CapabilityEntry) → numberOf (insertOut sp e .answer) ≡ 0 → insertOut sp e .answer ≡ Done
-zero-is-done sp e =
-    insert-by-cases sp e (λ (o : InsertOut). numberOf (o .answer) ≡ 0 → o .answer ≡ Done)
-    (λ over z. absurd (omega arith)) (λ i under there z. absurd (omega arith)) (λ a z. refl)
 
 module _ (d : Numbers) (s : ℕ) (mem : List ℕ) where
   abbrev sp : List ℕ

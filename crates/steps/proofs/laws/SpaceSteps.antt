@@ -4,10 +4,10 @@ use mathlib.Core.Bool.{Bool, true, false, true≢false}
 use mathlib.Core.List.{List}
 use Prim.Native.Nat.{ℕ, _+_, _-_, _*_, _%_, _^_, _≤_, _<_}
 use native.Mathlib.Omega.{arith}
+use borrow.Author.Tests.{eqb-true}
 use lib.Dec.{eqb}
 use lib.ListN.{length}
 use Rattle.answers.specs.Number.{numberOf}
-use Rattle.answers.specs.declared.Answer.the-variants.{Done}
 use Rattle.base.specs.Below.{one}
 use Rattle.base.specs.Choose.{pick}
 use Rattle.base.specs.Part.{onPart-same}
@@ -28,7 +28,7 @@ use Rattle.space.specs.Ids.{ids-of-length, entryIds}
 use Rattle.space.specs.Lookup.{lookedUp, counted}
 use Rattle.space.specs.Sound.{SpaceOf}
 use Rattle.space.specs.Words.{tableOf, slotWords}
-use Rattle.space.proofs.laws.Insert.{insert-by-cases}
+use Rattle.space.proofs.laws.Insert.{zero-is-done}
 use Rattle.space.proofs.laws.Kept.{lookup-keeps, insert-keeps, remove-keeps, clear-keeps, next-keeps, copy-keeps}
 use Rattle.world.specs.Numbers.{registeredOf}
 use Rattle.world.specs.Regions.{space, registry, lengthFor, startOf, sizeOf, view, onRegion}
@@ -41,12 +41,6 @@ use Rattle.steps.proofs.laws.HasEntry.{count-entries}
 use Rattle.steps.proofs.laws.EntriesChanged.{counted-entries, next-entries, cleared-entries, copied-entries, inserted-entries, refused-entries, removed-entries, missed-entries}
 use Rattle.steps.proofs.laws.Kept.{Kept}
 use Rattle.steps.proofs.laws.Stepped.{space-change, step-kept}
-
--- Answer 0 alone is `Done`.
-inserted-done : (sp : List ℕ) (e : CapabilityEntry) → eqb (numberOf (insertOut sp e .answer)) 0 ≡ true → insertOut sp e .answer ≡ Done
-inserted-done sp e =
-    insert-by-cases sp e (λ o. eqb (numberOf (o .answer)) 0 ≡ true → o .answer ≡ Done)
-    (λ over h. cc) (λ i under there h. cc) (λ a h. refl)
 
 -- A space has at most M entries.
 few-ids : (most : ℕ) (sp : List ℕ) → SpaceOf most sp → length (entryIds sp) ≤ most
@@ -126,7 +120,7 @@ module _ (d : Numbers) (mem : List ℕ) (sound : SoundAt d mem) where
                     arith,
                     held-holders (d .places) n rg (sound .registered-fit) long (idOf e) (sound .ids-differ) k l
                         (omega (arith, few-holders k l)),
-                    inserted-entries (d .most) sp of-space (idAt rg k) e rights (inserted-done sp e h),
+                    inserted-entries (d .most) sp of-space (idAt rg k) e rights (zero-is-done sp e (eqb-true _ 0 h)),
                   );
             })
         go false h =
