@@ -34,7 +34,7 @@ use Rattle.steps.specs.Steps.{spaceOf, lookupStep, holdStep, insertStep,
 use Rattle.steps.specs.declared.Taken.{Taken}
 use Rattle.steps.specs.declared.Taken.the-variants.{Id, Exhausted}
 use Rattle.steps.proofs.ChangingEntries.{still-fits}
-use Rattle.steps.proofs.laws.RegistryChanged.{RegistryChanged, registry-changed, word-changed, only-registry-changed}
+use Rattle.steps.proofs.laws.RegistryChanged.{WholeRegistry, registryIn, RegistryChanged, registry-changed, word-changed, only-registry-changed}
 use Rattle.steps.proofs.laws.SpaceChanged.{other-space}
 use Rattle.steps.proofs.laws.Taking.{take-by-cases}
 
@@ -181,14 +181,7 @@ pub record Takes (d : Numbers) (mem : List ℕ) (taken : Taken) (after : List �
   pub room : (id : ℕ) → taken ≡ Id id → recycledOf after ≤ d .places
 
 module _ (d : Numbers) (mem : List ℕ) (ready : Ready d mem) where
-  abbrev rg : List ℕ
-  rg = view d registry mem
-
-  abbrev n : ℕ
-  n = registeredOf mem
-
-  abbrev m : ℕ
-  m = recycledOf mem
+  open WholeRegistry (registryIn d mem) using (rg, n, m)
 
   long : 5 * d .places + 1 ≤ length rg
   long = registry-words d mem (ready .fits .long-enough)

@@ -18,6 +18,16 @@ use Rattle.steps.proofs.laws.Ready.{head-fits}
 use Rattle.steps.proofs.laws.SpaceChanged.{same-spaces}
 use Rattle.steps.proofs.laws.Kept.{Kept, Apart, apart-trans, region-apart, set-view, set-apart, sound-again}
 
+-- The registry of a memory by the names that the laws of its steps use: its words, the ids registered and recycled, and the next id.
+pub record WholeRegistry : Type 0 where
+  pub rg : List ℕ
+  pub n : ℕ
+  pub m : ℕ
+  pub next : ℕ
+
+abbrev pub registryIn : Numbers → List ℕ → WholeRegistry
+registryIn d mem = record { rg = view d registry mem; n = registeredOf mem; m = recycledOf mem; next = nextOf mem }
+
 -- The registry has the words rg then, and word i of the head is v.
 pub record RegistryChanged (d : Numbers) (rg : List ℕ) (i v : ℕ) (mem mem′ : List ℕ) : Type 0 where
   pub apart : Apart d mem mem′

@@ -21,21 +21,11 @@ use Rattle.world.specs.Views.{registry-words}
 use Rattle.world.specs.declared.Numbers.{Numbers}
 use Rattle.steps.specs.Steps.{registerStep, listStep, unregisterStep, recycleStep, collectStep, addStep}
 use Rattle.steps.proofs.laws.Kept.{Kept, kept-trans, registry-rules}
-use Rattle.steps.proofs.laws.RegistryChanged.{RegistryChanged, registry-changed, word-changed, only-registry-changed, changed-kept, registered-changed-kept, recycled-changed-kept}
+use Rattle.steps.proofs.laws.RegistryChanged.{WholeRegistry, registryIn, RegistryChanged, registry-changed, word-changed, only-registry-changed, changed-kept, registered-changed-kept, recycled-changed-kept}
 use Rattle.steps.proofs.laws.TakeStep.{Free}
 
 module _ (d : Numbers) (mem : List ℕ) (sound : SoundAt d mem) where
-  abbrev rg : List ℕ
-  rg = view d registry mem
-
-  abbrev n : ℕ
-  n = registeredOf mem
-
-  abbrev m : ℕ
-  m = recycledOf mem
-
-  abbrev next : ℕ
-  next = nextOf mem
+  open WholeRegistry (registryIn d mem) using (rg, n, m, next)
 
   rules : RegistryRules (d .places) n m next (spacesWith d mem) rg
   rules = registry-rules d mem sound

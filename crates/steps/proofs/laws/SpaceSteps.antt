@@ -30,7 +30,6 @@ use Rattle.space.specs.Sound.{SpaceOf}
 use Rattle.space.specs.Words.{tableOf, slotWords}
 use Rattle.space.proofs.laws.Insert.{zero-is-done}
 use Rattle.space.proofs.laws.Kept.{lookup-keeps, insert-keeps, remove-keeps, clear-keeps, next-keeps, copy-keeps}
-use Rattle.world.specs.Numbers.{registeredOf}
 use Rattle.world.specs.Regions.{space, registry, lengthFor, startOf, sizeOf, view, onRegion}
 use Rattle.world.specs.Sound.{hasEntry, spacesWith, SoundAt}
 use Rattle.world.specs.Views.{Change, length-kept, changed-twice, registry-words}
@@ -40,6 +39,7 @@ use Rattle.steps.proofs.laws.Ready.{space-of}
 use Rattle.steps.proofs.laws.HasEntry.{count-entries}
 use Rattle.steps.proofs.laws.EntriesChanged.{counted-entries, next-entries, cleared-entries, copied-entries, inserted-entries, refused-entries, removed-entries, missed-entries}
 use Rattle.steps.proofs.laws.Kept.{Kept}
+use Rattle.steps.proofs.laws.RegistryChanged.{WholeRegistry, registryIn}
 use Rattle.steps.proofs.laws.Stepped.{space-change, step-kept}
 
 -- A space has at most M entries.
@@ -50,11 +50,7 @@ few-ids most sp s =
     omega (arith, ids-of-length (liveEntries ws 0 (tableOf sp .slots)), live-count-le most ws (tableOf sp) (s .sound .table))
 
 module _ (d : Numbers) (mem : List ℕ) (sound : SoundAt d mem) where
-  abbrev rg : List ℕ
-  rg = view d registry mem
-
-  abbrev n : ℕ
-  n = registeredOf mem
+  open WholeRegistry (registryIn d mem) using (rg, n)
 
   long : 5 * d .places + 1 ≤ length rg
   long = registry-words d mem (sound .long-enough)

@@ -9,14 +9,14 @@ use Rattle.registry.specs.Ids.{firstTaken}
 use Rattle.registry.specs.IdsLaws.{length-taken, taken-keeps, taken-unregistered, taken-smallest}
 use Rattle.registry.specs.Words.{idAt, recycledAt}
 use Rattle.world.specs.Numbers.{nextOf, registeredOf, recycledOf}
-use Rattle.world.specs.Regions.{registry, view, onRegion}
+use Rattle.world.specs.Regions.{registry, onRegion}
 use Rattle.world.specs.Sound.{ids, recycled, spacesWith, SoundAt}
 use Rattle.world.specs.Views.{registry-words}
 use Rattle.world.specs.declared.Numbers.{Numbers}
 use Rattle.steps.specs.Steps.{takenId, takeStep}
 use Rattle.steps.specs.declared.Taken.the-variants.{Id}
 use Rattle.steps.proofs.laws.Kept.{Kept, kept-refl, registry-rules}
-use Rattle.steps.proofs.laws.RegistryChanged.{RegistryChanged, registry-changed, word-changed, changed-kept, recycled-changed-kept}
+use Rattle.steps.proofs.laws.RegistryChanged.{WholeRegistry, registryIn, RegistryChanged, registry-changed, word-changed, changed-kept, recycled-changed-kept}
 use Rattle.steps.proofs.laws.Taking.{take-by-cases}
 
 -- The id i is free to be registered.
@@ -28,17 +28,7 @@ pub record Free (d : Numbers) (mem : List ℕ) (i : ℕ) : Type 0 where
   pub not-recycled : (k : ℕ) → k < recycledOf mem → recycled d mem k ≢ i
 
 module _ (d : Numbers) (mem : List ℕ) (sound : SoundAt d mem) where
-  abbrev rg : List ℕ
-  rg = view d registry mem
-
-  abbrev n : ℕ
-  n = registeredOf mem
-
-  abbrev m : ℕ
-  m = recycledOf mem
-
-  abbrev next : ℕ
-  next = nextOf mem
+  open WholeRegistry (registryIn d mem) using (rg, n, m, next)
 
   -- ---- the smallest recycled id
 
