@@ -80,7 +80,7 @@ enum {
     STONESPRY_POLICY_ENFORCED = 3
 };
 
-/* The words that a world needs, exactly; constant for constant arguments, some of which it reads twice. `spaces` (S) 1 to 64, `most` (M)
+/* The words that a world needs, exactly; constant for constant arguments; it reads `most` several times. `spaces` (S) 1 to 64, `most` (M)
  * 1 to 256, the largest quota, `places` (R) 1 to 4,095, registered ids, `pairs` (V) 1 to 8,192, revocations logged, `queues` (P) 1 to 32,
  * processes with notices. */
 #define STONESPRY_LENGTH(spaces, most, places, pairs, queues) \
@@ -283,7 +283,7 @@ void stonespry_revoke_batch(StonespryCallAnswer *out, uint64_t *mem, size_t mem_
 /* Whether the token's id and generation are logged. 0, 26; value: 1 or 0. */
 void stonespry_is_revoked(StonespryCallAnswer *out, const uint64_t *mem, size_t mem_len, uint64_t token);
 
-/* The epoch, up by one for each id that was revoked or logged; wraps. 0, 26; value: the epoch. */
+/* The epoch, up by one for each id that is revoked, or asked to be while it is not registered; wraps. 0, 26; value: the epoch. */
 void stonespry_epoch(StonespryCallAnswer *out, const uint64_t *mem, size_t mem_len);
 
 /* All descendants of an id, breadth first, to the front of the area, 4,094 at most. 0, 21, 26; value: how many. */
@@ -368,7 +368,7 @@ uint32_t stonespry_rights_new(uint32_t rights);
 /* Whether all of the other rights are among these. */
 bool stonespry_rights_contains(uint32_t rights, uint32_t other);
 
-/* The rights that both have, that either has, and twice those of the first that the other lacks. */
+/* The rights that both have, that either has, and, under two names, those of the first that the other lacks. */
 uint32_t stonespry_rights_intersection(uint32_t rights, uint32_t other);
 uint32_t stonespry_rights_union(uint32_t rights, uint32_t other);
 uint32_t stonespry_rights_remove(uint32_t rights, uint32_t other);

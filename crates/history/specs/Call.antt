@@ -1,5 +1,5 @@
--- Every public call on a world's memory, with its arguments, by what it may do: open a world, only read, accept an entry, or change
--- something else. Rights are 32 bits wide, so no caller can pass more.
+-- Every public call on a world's memory but the look and `request_run`'s `run`, with its arguments, by what it may do: open a world, only
+-- read, accept an entry, or change something else. Rights are 32 bits wide, so no caller can pass more.
 use mathlib.Core.Bool.{Bool}
 use mathlib.Core.List.{List}
 use Prim.Native.Nat.{ℕ, _^_, _<_}

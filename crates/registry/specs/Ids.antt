@@ -11,10 +11,11 @@ use Rattle.registry.specs.Words.{recycledAt}
 unfoldable pub firstTaken : ℕ → ℕ → List ℕ → List ℕ
 firstTaken places m rg = shiftedDown (4 * places) (4 * places + m) rg
 
--- The recycled ids with one more, which stands before the first that is larger.
+-- Where one more joins the recycled ids: before the first that is larger.
 abbrev pub joinPlace : ℕ → ℕ → ℕ → List ℕ → ℕ
 joinPlace places m id rg = first (λ j. ltb id (recycledAt places rg j)) m
 
+-- The recycled ids with it.
 unfoldable pub recycledWith : ℕ → ℕ → ℕ → List ℕ → List ℕ
 recycledWith places m id rg =
     let at = 4 * places + joinPlace places m id rg in

@@ -1,4 +1,4 @@
--- Entries come and go, and their holders are counted: the ways through `insert`, `remove`, `clear` and `copy`.
+-- Entries come and go, and their holders are counted: the ways through the steps of `space_steps` that do it.
 use mathlib.Core.Bool.{true, false}
 use mathlib.Core.List.{List}
 use mathlib.Core.Logic.{_≢_}

@@ -31,10 +31,11 @@ openHead d =
 unfoldable pub openSpace : ℕ → List ℕ → List ℕ
 openSpace quota sp = (quota ∷ 0 ∷ 0 ∷ 0 ∷ 0 ∷ 0 ∷ 0 ∷ 0 ∷ []) ++ drop 8 sp
 
--- Every space opened, every queue free.
+-- Every space opened.
 abbrev pub openSpaces : Numbers → List ℕ → ℕ → List ℕ → List ℕ
 openSpaces d quotas n mem = onEach d space (λ s. openSpace (getD quotas s 0)) n mem
 
+-- Every queue free.
 abbrev pub openQueues : Numbers → ℕ → List ℕ → List ℕ
 openQueues d n mem = onEach d queue (λ q qu. set qu 2 0) n mem
 

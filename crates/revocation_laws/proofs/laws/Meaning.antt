@@ -1,5 +1,5 @@
 -- Document 01, "Revocation": what a revocation given 0 does. Of a registered id: it and all its descendants are revoked then, whatever they
--- were before, and in the log; nothing else of the registry or the spaces changes.
+-- were before; the log has what it had and those newly revoked; nothing else of the registry or the spaces changes.
 use mathlib.Core.Bool.{true}
 use mathlib.Core.List.{List}
 use mathlib.Core.Logic.{_↔_, _≢_, _⊎_, inl, inr, ⊎-elim}
