@@ -1,8 +1,7 @@
 -- What the contracts of `host` cite beside those of the crates that it exports, and the laws by which they are proved.
-pub mod Answered
+pub mod Worlds
 pub mod Spaces
 pub mod Replies
-pub mod KnownLaws
 pub mod RepliesLaws
 pub mod Manager
 pub mod Revocation

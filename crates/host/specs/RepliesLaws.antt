@@ -1,5 +1,5 @@
 -- A host sees of a call's reply what it sees of the definition's. One law for a call that leaves the memory, one for a call that leaves a
--- lent area; a proof search uses both for a call that leaves both, and `of-known` for a reply alone.
+-- lent area; a proof search uses both for a call that leaves both.
 use mathlib.Core.List.{List}
 use mathlib.Core.Path.{_≡_, ap}
 use Prim.Native.Nat.{ℕ}

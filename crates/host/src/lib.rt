@@ -1,11 +1,8 @@
-// What a program in C or Rust calls: the library's functions by plain names, numbers in, numbers out.
-// The contract of each cites the same definition as the function's own.
-mod flags;
+// What a program in C or Rust calls of a world: the calls by plain names, numbers in, numbers out.
+// The contract of each cites the same definition as the call's own.
 mod manager;
 mod replies;
 mod revocation;
-mod rights;
 mod spaces;
 mod stream;
-mod tokens;
 mod worlds;

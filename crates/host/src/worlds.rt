@@ -2,7 +2,7 @@
 ghost use mathlib.Core.Path.{_≡_};
 ghost use Rattle.world.specs.Open.{opening};
 ghost use Rattle.world.specs.Sound.{soundTest};
-ghost use Rattle.host.specs.Answered.{numbered};
+ghost use Rattle.host.specs.Worlds.{numbered};
 use world::Numbers;
 
 // Whether the memory is sound: 26 is for what is not.

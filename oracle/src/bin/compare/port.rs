@@ -1,4 +1,4 @@
-//! The port: the exported functions of the crate `host`, and each function of token.rs by them.
+//! The port: the exported functions of the crate `host_tokens`, and each function of token.rs by them.
 //!
 //! The declarations keep to what tools/native says holds on both processors.
 

@@ -6,7 +6,7 @@ use borrow.Author.Needs.{needs}
 use Rattle.answers.specs.Number.{numberOf}
 use Rattle.answers.specs.declared.Answer.{Answer}
 use Rattle.world.specs.Open.{OpenOut}
-use Rattle.host.specs.Answered.{numbered}
+use Rattle.host.specs.Worlds.{numbered}
 use Rattle.host.proofs.worlds.stonespry_open.Statement.{statement}
 use Rattle.host.proofs.worlds.stonespry_open.Tie as tie
 
