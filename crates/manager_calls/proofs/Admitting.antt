@@ -1,20 +1,20 @@
 -- What a registered id needs until its entry is in a space: room to recycle it, which steps on the registry and on a space keep; and the
 -- two ways of an admission.
-use mathlib.Core.Bool.{true, false}
+use mathlib.Core.Bool.{false}
 use mathlib.Core.List.{List}
-use mathlib.Core.Path.{_≡_}
+use mathlib.Core.Path.{_≡_, sym, ap, _∙_}
 use Prim.Native.Nat.{ℕ, _-_, _<_, _≤_}
 use native.Mathlib.Omega.{arith}
-use borrow.Author.Tests.{eq-eqb, ne-eqb}
+use borrow.Author.Tests.{ne-eqb}
 use lib.Dec.{eqb}
 use Rattle.answers.specs.Number.{numberOf}
-use Rattle.answers.specs.declared.Answer.{Answer}
-use Rattle.answers.specs.declared.Answer.the-variants.{Done, OutOfMemory}
-use Rattle.space.specs.Change.{insertOut}
+use Rattle.answers.specs.declared.Answer.the-variants.{OutOfMemory}
+use Rattle.space.specs.Change.{InsertOut, insertOut}
+use Rattle.space.proofs.laws.Insert.{zero-is-done}
 use Rattle.steps.proofs.laws.ReadyKept.{Stays, Leaves, register-leaves}
 use Rattle.steps.specs.Ready.{Ready}
-use Rattle.steps.specs.Replies.{Left, replied, refuse}
-use Rattle.steps.specs.Steps.{spaceOf, newEntry, insertStep, registerStep, unregisterStep, recycleStep, addStep}
+use Rattle.steps.specs.Replies.{Left, refuse}
+use Rattle.steps.specs.Steps.{spaceOf, newEntry, insertStep, insertReply, registerStep, unregisterStep, recycleStep, addStep}
 use Rattle.steps.specs.declared.Reply.{Reply}
 use Rattle.world.specs.Numbers.{registeredOf, recycledOf}
 use Rattle.world.specs.declared.Numbers.{Numbers}
@@ -44,23 +44,27 @@ room-registered d mem id object link ready free room =
 
 module _ (d : Numbers) (s id token object rights i : ℕ) (mem mid : List ℕ)
     (inserted : mid ≡ insertStep d s (newEntry token object rights) mem)
-    (answer : Answer) (told : answer ≡ insertOut (spaceOf d s mem) (newEntry token object rights) .answer)
-    (number : ℕ) (numbered : number ≡ numberOf answer)
+    (reply : Reply) (told : reply ≡ insertReply token (insertOut (spaceOf d s mem) (newEntry token object rights)))
+    (number : ℕ) (numbered : number ≡ numberOf (reply .answer))
   where
+    abbrev out : InsertOut
+    out = insertOut (spaceOf d s mem) (newEntry token object rights)
+
+    is-number : number ≡ numberOf (out .answer)
+    is-number = numbered ∙ ap (λ (r : Reply). numberOf (r .answer)) told
+
     pub admits :
-        (moved : ℕ) (after : List ℕ) → moved ≡ insertOut (spaceOf d s mem) (newEntry token object rights) .moved → after ≡ addStep i 1 mid
-        → number ≡ 0 → record { reply = replied Done token moved; memory = after } ≡ admitted d s id token object rights i mem
+        (after : List ℕ) → after ≡ addStep i 1 mid → number ≡ 0
+        → record { reply = reply; memory = after } ≡ admitted d s id token object rights i mem
     unfolding admitted
-    admits moved after moves counted zero =
-        let yes : eqb (numberOf (insertOut (spaceOf d s mem) (newEntry token object rights) .answer)) 0 ≡ true =
-        rw (← told, ← numbered) (eq-eqb number 0 zero) in
-        rw (yes, moves, counted, inserted)
+    admits after counted zero =
+        let done = zero-is-done (spaceOf d s mem) (newEntry token object rights) (sym is-number ∙ zero) in
+        rw (told, done, counted, inserted)
 
     pub takes-back :
         (left : Left Reply) → left ≡ refuse (recycleStep d id (unregisterStep d (registeredOf mid - 1) mid)) OutOfMemory → ¬ (number ≡ 0)
         → left ≡ admitted d s id token object rights i mem
     unfolding admitted
     takes-back left is some =
-        let no : eqb (numberOf (insertOut (spaceOf d s mem) (newEntry token object rights) .answer)) 0 ≡ false =
-        rw (← told, ← numbered) (ne-eqb number 0 some) in
+        let no : eqb (numberOf (out .answer)) 0 ≡ false = rw (← is-number) (ne-eqb number 0 some) in
         rw (no, is, inserted)

@@ -13,7 +13,6 @@ use steps::registered::add;
 use steps::registered::recycle;
 use steps::registered::unregister;
 use steps::replies::refusal;
-use table::CapabilityEntry;
 use token::CapabilityToken;
 use token::Rights;
 use world::Numbers;
@@ -62,21 +61,11 @@ pub fn admit(
         ⌝ }
     ensures { λ r. ⌜ record { reply = r; memory = now (mem .exit) } ≡ admitted d s id (token .0) object (rights .0) i (now (mem .entry)) ⌝ }
 {
-    let entry = CapabilityEntry {
-        capability: token,
-        object,
-        rights,
-        uses: 0,
-    };
-    let r = spaces::insert(mem, d, s, entry);
+    let r = spaces::insert(mem, d, s, token, object, rights, token.0);
     let answer = r.answer;
     if answer.number() == 0 {
         add(mem, i, 1);
-        return Reply {
-            answer: Answer::Done,
-            value: token.0,
-            count: r.moved,
-        };
+        return r;
     }
     take_back(mem, d, id)
 }

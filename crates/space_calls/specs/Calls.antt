@@ -10,7 +10,7 @@ use Rattle.space.specs.Change.{insertOut}
 use Rattle.space.specs.Lookup.{lookedUp}
 use Rattle.space.specs.Words.{generationOf}
 use Rattle.steps.specs.Enter.{onWorld, onSpace}
-use Rattle.steps.specs.Steps.{spaceOf, newEntry, nextStep, insertStep, removeStep, clearStep, copyStep, copiedOf, takenId, takeStep}
+use Rattle.steps.specs.Steps.{spaceOf, newEntry, nextStep, insertStep, insertReply, removeStep, clearStep, copyStep, copiedOf, takenId, takeStep}
 use Rattle.steps.specs.declared.Taken.{Taken}
 use Rattle.steps.specs.declared.Taken.the-variants.{Id, Exhausted}
 use Rattle.table.specs.declared.CapabilityEntry.{CapabilityEntry}
@@ -19,7 +19,7 @@ use Rattle.token.specs.declared.capability.Made.{Made}
 use Rattle.token.specs.declared.capability.Made.the-variants.{Token, Refused}
 use Rattle.world.specs.declared.Numbers.{Numbers}
 use Rattle.steps.specs.Replies.{Left, replied, done, refusal, refuse}
-use Rattle.space_calls.specs.Replies.{objectReply, goneReply, insertReply}
+use Rattle.space_reads.specs.Replies.{objectReply, goneReply}
 use Rattle.steps.specs.declared.Reply.{Reply}
 
 -- ---- entries

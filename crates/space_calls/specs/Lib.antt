@@ -1,3 +1,2 @@
 -- What the calls that change a space answer and leave.
-pub mod Replies
 pub mod Calls

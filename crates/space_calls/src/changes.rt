@@ -1,9 +1,6 @@
 // What changes a space: inserting, removing, clearing, copying, and its generation.
 ghost use mathlib.Core.Path.{_≡_};
-ghost use Prim.Native.Nat.{_<_};
-ghost use Rattle.steps.specs.Ready.{Ready};
-ghost use Rattle.steps.specs.Steps.{newEntry};
-ghost use Rattle.space_calls.specs.Calls.{inserting, insertCallOut, removeOut, incrementOut, clearOut, revokeAllOut, copyOut};
+ghost use Rattle.space_calls.specs.Calls.{insertCallOut, removeOut, incrementOut, clearOut, revokeAllOut, copyOut};
 use super::replies::object_reply;
 use answers::Answer;
 use space_steps::spaces;
@@ -12,48 +9,8 @@ use steps::Reply;
 use steps::enter::enter_space;
 use steps::replies::done;
 use steps::replies::refusal;
-use table::CapabilityEntry;
 use token::CapabilityToken;
 use token::Rights;
-use world::Numbers;
-
-// A new entry inserted; the value is answered if it is accepted.
-pub fn insert_new(
-    mem: &mut [u64],
-    d: Numbers,
-    s: usize,
-    token: CapabilityToken,
-    object: u64,
-    rights: Rights,
-    value: u64,
-) -> Reply
-    requires { ⌜ Ready d (now mem) × (s < d .spaces) ⌝ }
-    ensures { λ r. ⌜
-        record { reply = r; memory = now (mem .exit) }
-        ≡ inserting d s (newEntry (token .0) object (rights .0)) value (now (mem .entry))
-        ⌝ }
-{
-    let entry = CapabilityEntry {
-        capability: token,
-        object,
-        rights,
-        uses: 0,
-    };
-    let r = spaces::insert(mem, d, s, entry);
-    let answer = r.answer;
-    if answer.number() == 0 {
-        return Reply {
-            answer,
-            value,
-            count: r.moved,
-        };
-    }
-    Reply {
-        answer,
-        value: 0,
-        count: r.moved,
-    }
-}
 
 pub fn insert(
     mem: &mut [u64],
@@ -66,7 +23,7 @@ pub fn insert(
 {
     match enter_space(mem, s) {
         Entered::Refused(answer) => refusal(answer),
-        Entered::Good(d) => insert_new(mem, d, s, token, object, rights, 0),
+        Entered::Good(d) => spaces::insert(mem, d, s, token, object, rights, 0),
     }
 }
 

@@ -3,7 +3,6 @@ ghost use mathlib.Core.Path.{_≡_};
 ghost use Prim.Native.Nat.{_<_};
 ghost use Rattle.steps.specs.Ready.{Ready};
 ghost use Rattle.space_calls.specs.Calls.{allocOut, createTaken, createOut, revokeOut};
-use super::changes::insert_new;
 use super::replies::gone_reply;
 use answers::Answer;
 use space_steps::spaces;
@@ -42,7 +41,7 @@ fn create_with(mem: &mut [u64], d: Numbers, s: usize, rights: Rights, object: u6
 {
     let generation = spaces::facts(mem, d, s).generation;
     match CapabilityToken::from_id_and_generation(id, generation) {
-        Made::Token(token) => insert_new(mem, d, s, token, object, rights, id),
+        Made::Token(token) => spaces::insert(mem, d, s, token, object, rights, id),
         Made::Refused(_) => refusal(Answer::SpaceIds),
     }
 }

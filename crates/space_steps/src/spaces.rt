@@ -13,19 +13,22 @@ ghost use Rattle.space.specs.Copy.{copiedTable, copiedSpace};
 ghost use Rattle.space.specs.Ids.{entryIds};
 ghost use Rattle.world.specs.Numbers.{registeredOf};
 ghost use Rattle.world.specs.Regions.{space, registry, view, onRegion};
-ghost use Rattle.steps.specs.Steps.{spaceOf, factsOf, lookupStep, nextStep, insertStep, removeStep, clearStep, copyStep, copiedOf};
+ghost use Rattle.steps.specs.Steps.{spaceOf, factsOf, lookupStep, nextStep, newEntry, insertStep, insertReply, removeStep, clearStep, copyStep, copiedOf};
 use space::Insertion;
 use space::LookedUp;
 use steps::Copied;
 use steps::Facts;
+use steps::Reply;
 use steps::holders::hold;
 use steps::holders::hold_all;
 use steps::holders::release;
 use steps::holders::release_all;
+use steps::replies::replied;
 use table::CapabilityEntry;
 use table::Got;
 use table::Nth;
 use token::CapabilityToken;
+use token::Rights;
 use world::Numbers;
 use world::head::REGISTERED;
 use world::regions::registry_at;
@@ -103,24 +106,34 @@ fn insert_entry(mem: &mut [u64], d: Numbers, s: usize, entry: CapabilityEntry) -
     space::insert(&mut mem[start..end], entry)
 }
 
-// An accepted entry has its holder counted.
-pub fn insert(mem: &mut [u64], d: Numbers, s: usize, entry: CapabilityEntry) -> Insertion
+// A new entry. If it is accepted its holder is counted, and the value answered.
+pub fn insert(
+    mem: &mut [u64],
+    d: Numbers,
+    s: usize,
+    token: CapabilityToken,
+    object: u64,
+    rights: Rights,
+    value: u64,
+) -> Reply
     requires { ⌜ Ready d (now mem) × (s < d .spaces) ⌝ }
-    ensures { λ _. ⌜ now (mem .exit) ≡ insertStep d s entry (now (mem .entry)) ⌝ }
-    ensures { λ r. ⌜
-        (r .answer ≡ insertOut (spaceOf d s (now (mem .entry))) entry .answer)
-        × (r .moved ≡ insertOut (spaceOf d s (now (mem .entry))) entry .moved)
-        ⌝ }
+    ensures { λ _. ⌜ now (mem .exit) ≡ insertStep d s (newEntry (token .0) object (rights .0)) (now (mem .entry)) ⌝ }
+    ensures { λ r. ⌜ r ≡ insertReply value (insertOut (spaceOf d s (now (mem .entry))) (newEntry (token .0) object (rights .0))) ⌝ }
 {
     let n = mem[REGISTERED] as usize;
-    let capability = entry.capability;
+    let entry = CapabilityEntry {
+        capability: token,
+        object,
+        rights,
+        uses: 0,
+    };
     let r = insert_entry(mem, d, s, entry);
     let answer = r.answer;
     if answer.number() == 0 {
-        hold(mem, d, n, capability.id());
-        return r;
+        hold(mem, d, n, token.id());
+        return replied(answer, value, r.moved);
     }
-    r
+    replied(answer, 0, r.moved)
 }
 
 // The entry of exactly the token out of the space.

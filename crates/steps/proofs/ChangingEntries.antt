@@ -23,7 +23,8 @@ use Rattle.world.specs.Numbers.{registeredOf}
 use Rattle.world.specs.Regions.{space, startOf, sizeOf, onRegion}
 use Rattle.world.specs.declared.Numbers.{Numbers}
 use Rattle.steps.specs.Ready.{Fits, Ready}
-use Rattle.steps.specs.Steps.{spaceOf, holdStep, releaseStep, holdAllStep, releaseAllStep, insertStep, isEntry, removeStep, clearStep, copyStep}
+use Rattle.steps.specs.Replies.{replied}
+use Rattle.steps.specs.Steps.{spaceOf, holdStep, releaseStep, holdAllStep, releaseAllStep, insertStep, insertReply, isEntry, removeStep, clearStep, copyStep}
 
 -- Memory of the same length fits as well.
 pub still-fits : (d : Numbers) (mem after : List ℕ) → Ready d mem → length after ≡ length mem → Fits d after
@@ -35,18 +36,30 @@ module _ (d : Numbers) (s : ℕ) (mem : List ℕ) where
       (came : between ≡ onRegion d (space s) (λ sp. insertOut sp e .words) mem)
       (told : answer ≡ insertOut (spaceOf d s mem) e .answer) (numbered : number ≡ numberOf answer)
     where
-      pub insert-accepted : number ≡ 0 → (id : ℕ) → id ≡ idOf e → (after : List ℕ) → after ≡ holdStep d (registeredOf mem) id between
-          → after ≡ insertStep d s e mem
-      unfolding insertStep
-      insert-accepted zero id is after held =
-          let yes : eqb (numberOf (insertOut (spaceOf d s mem) e .answer)) 0 ≡ true = rw (← told, ← numbered) (eq-eqb number 0 zero) in
-          rw (yes, held, is, came)
+      module _ (zero : number ≡ 0) where
+        is-zero : eqb (numberOf (insertOut (spaceOf d s mem) e .answer)) 0 ≡ true
+        is-zero = rw (← told, ← numbered) (eq-eqb number 0 zero)
 
-      pub insert-refused : ¬ (number ≡ 0) → between ≡ insertStep d s e mem
-      unfolding insertStep
-      insert-refused some =
-          let no : eqb (numberOf (insertOut (spaceOf d s mem) e .answer)) 0 ≡ false = rw (← told, ← numbered) (ne-eqb number 0 some) in
-          rw (no, came)
+        pub insert-accepted : (id : ℕ) → id ≡ idOf e → (after : List ℕ) → after ≡ holdStep d (registeredOf mem) id between
+            → after ≡ insertStep d s e mem
+        unfolding insertStep
+        insert-accepted id is after held = rw (is-zero, held, is, came)
+
+        pub accepted-reply : (value moved : ℕ) → moved ≡ insertOut (spaceOf d s mem) e .moved
+            → replied answer value moved ≡ insertReply value (insertOut (spaceOf d s mem) e)
+        accepted-reply value moved moves = rw (is-zero, told, moves)
+
+      module _ (some : ¬ (number ≡ 0)) where
+        not-zero : eqb (numberOf (insertOut (spaceOf d s mem) e .answer)) 0 ≡ false
+        not-zero = rw (← told, ← numbered) (ne-eqb number 0 some)
+
+        pub insert-refused : between ≡ insertStep d s e mem
+        unfolding insertStep
+        insert-refused = rw (not-zero, came)
+
+        pub refused-reply : (value moved : ℕ) → moved ≡ insertOut (spaceOf d s mem) e .moved
+            → replied answer 0 moved ≡ insertReply value (insertOut (spaceOf d s mem) e)
+        refused-reply value moved moves = rw (not-zero, told, moves)
 
   -- A space that refuses an entry leaves all as it is.
   pub refused-insert : (e : CapabilityEntry) → numberOf (insertOut (spaceOf d s mem) e .answer) ≢ 0 → insertStep d s e mem ≡ mem

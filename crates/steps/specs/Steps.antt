@@ -11,7 +11,7 @@ use Rattle.registry.specs.Holders.{placeOf, held, released, heldAll, releasedAl
 use Rattle.registry.specs.Ids.{firstTaken, recycledWith}
 use Rattle.registry.specs.Registering.{registered, listGiven, unregistered, collected}
 use Rattle.registry.specs.Words.{objectAt, children}
-use Rattle.space.specs.Change.{insertOut, removedToken, cleared, nextGeneration}
+use Rattle.space.specs.Change.{InsertOut, insertOut, removedToken, cleared, nextGeneration}
 use Rattle.space.specs.Copy.{copiedTable, copiedSpace}
 use Rattle.space.specs.Ids.{entryIds}
 use Rattle.space.specs.Lookup.{lookedUp, counted}
@@ -25,8 +25,10 @@ use Rattle.world.specs.Numbers.{nextWord, registeredWord, recycledWord, nextOf,
 use Rattle.world.specs.Regions.{space, registry, view, onRegion}
 use Rattle.world.specs.Sound.{links, recycled}
 use Rattle.world.specs.declared.Numbers.{Numbers}
+use Rattle.steps.specs.Replies.{replied}
 use Rattle.steps.specs.declared.Copied.{Copied}
 use Rattle.steps.specs.declared.Facts.{Facts}
+use Rattle.steps.specs.declared.Reply.{Reply}
 use Rattle.steps.specs.declared.Taken.{Taken}
 use Rattle.steps.specs.declared.Taken.the-variants.{Id, Exhausted}
 
@@ -79,6 +81,10 @@ unfoldable pub insertStep : Numbers → ℕ → CapabilityEntry → List ℕ →
 insertStep d s e mem =
     let after = onRegion d (space s) (λ sp. insertOut sp e .words) mem in
     pick (eqb (numberOf (insertOut (spaceOf d s mem) e .answer)) 0) (holdStep d (registeredOf mem) (idOf e) after) after
+
+-- An insert's answer and its moves; the value is for an accepted entry alone.
+abbrev pub insertReply : ℕ → InsertOut → Reply
+insertReply value o = replied (o .answer) (pick (eqb (numberOf (o .answer)) 0) value 0) (o .moved)
 
 abbrev pub isEntry : Got → Bool
 isEntry (Entry e) = true

@@ -14,7 +14,7 @@ use Rattle.space.specs.Words.{generationOf, tableOf, slotWords}
 use Rattle.space.proofs.laws.Insert.{insert-by-cases}
 use Rattle.steps.specs.Enter.{onSpace}
 use Rattle.steps.specs.Replies.{Left, done, refuse}
-use Rattle.steps.specs.Steps.{spaceOf, takenId, takeStep, newEntry}
+use Rattle.steps.specs.Steps.{spaceOf, newEntry, insertReply, takenId, takeStep}
 use Rattle.steps.specs.declared.Reply.{Reply}
 use Rattle.steps.specs.declared.Taken.{Taken}
 use Rattle.steps.specs.declared.Taken.the-variants.{Id, Exhausted}
@@ -34,7 +34,6 @@ use Rattle.world.specs.Numbers.{numbersOf}
 use Rattle.world.specs.declared.Numbers.{Numbers}
 use Rattle.space_calls.specs.Calls.{insertCallOut, removeOut, incrementOut, clearOut, revokeAllOut, copyOut, takenReply, allocOut, createMade, createTaken, createOut, revokeMade, revokeOut}
 use Rattle.space_reads.specs.Calls.{factsOut, lookupOut, lookupEntryOut, checkRightsOut, getEntryOut, nthEntryOut}
-use Rattle.space_calls.specs.Replies.{insertReply}
 use Rattle.space_reads.specs.Replies.{foundReply, heldReply, noEntry, entryReply, nthReply, noFacts}
 use Rattle.space_reads.specs.declared.EntryReply.{EntryReply}
 use Rattle.space_reads.specs.declared.FactsReply.{FactsReply}

@@ -18,14 +18,14 @@ returns : tie.Need-returns
 returns c =
     let tested = c .before .before .before .before in
     let put = tested .before .before .before .before .insert .ensures in
-    admits _ _ _ _ _ _ _ _ _ (put .0) _ (put .1 .0) _ (tested .before .number .ensures) _ _ (put .1 .1)
-    (c .before .before .add .ensures) (tested .if1 .taken)
+    admits _ _ _ _ _ _ _ _ _ (put .0) _ (put .1) _ (tested .before .number .ensures) _ (c .before .before .add .ensures)
+    (tested .if1 .taken)
 
 returns-2 : tie.Need-returns-2
 returns-2 c =
     let tested = c .before .before .before .before in
     let put = tested .before .before .before .before .insert .ensures in
-    takes-back _ _ _ _ _ _ _ _ _ (put .0) _ (put .1 .0) _ (tested .before .number .ensures) _
+    takes-back _ _ _ _ _ _ _ _ _ (put .0) _ (put .1) _ (tested .before .number .ensures) _
     (c .before .before .take-back .ensures) (tested .if1 .left)
 
 pub admit-spec : {M : Type 1} → statement M
