@@ -14,7 +14,7 @@ use Rattle.revocation_steps.proofs.laws.CascadeSteps.{revokeStep, cascadeQueues
 use Rattle.steps.specs.Replies.{Left, done, refuse}
 use Rattle.steps.specs.Steps.{placeIn, addStep}
 use Rattle.steps.specs.declared.Reply.{Reply}
-use Rattle.steps.proofs.laws.Cases.{pick-by-cases, when-by-cases}
+use Rattle.steps.proofs.laws.Cases.{pick-by-cases, when-by-cases, when-below}
 use Rattle.token.specs.Token.{idOf, generationOf}
 use Rattle.world.specs.Numbers.{registeredOf, loggedOf, epochWord}
 use Rattle.world.specs.Sound.{states}
@@ -47,15 +47,12 @@ module _ (d : Numbers) (mem : List ℕ) (P : Left Reply → Type 0) where
   unfolding revoking revokeStep
   revoking-by-cases r time listed already full crowded goes =
       let state : ℕ = states d mem r in
-      let free : ℕ = freeQueues d mem in
-      let needed : ℕ = cascadeQueues d mem r listed in
       when-by-cases P _ _ (eqb (revoked state) 1) (λ e. already (eqb-true (revoked state) 1 e))
       (λ e.
       let unrevoked : revoked state ≡ 0 = omega (arith, eqb-false (revoked state) 1 e) in
-      when-by-cases P _ _ (ltb (d .pairs) (pairsAfter d mem r)) (λ e. full unrevoked (ltb-true _ _ e))
+      when-below P _ _ (d .pairs) (pairsAfter d mem r) (full unrevoked)
       (λ fits.
-      when-by-cases P _ _ (ltb free needed) (λ e. crowded unrevoked (ltb-false _ _ fits) (ltb-true free needed e))
-      (λ e. goes unrevoked (ltb-false _ _ fits) (ltb-false free needed e))))
+      when-below P _ _ (freeQueues d mem) (cascadeQueues d mem r listed) (crowded unrevoked fits) (goes unrevoked fits)))
 
   pub logging-by-cases :
       (token : ℕ) → (d .pairs < pairsWith d mem token → P (refuse mem LogFull))
@@ -63,8 +60,7 @@ module _ (d : Numbers) (mem : List ℕ) (P : Left Reply → Type 0) where
       → P (record { reply = done 0; memory = addStep epochWord 1 (logStep d (newPair d mem token) mem) }))
       → P (loggingToken d token mem)
   unfolding loggingToken
-  logging-by-cases token full goes =
-      when-by-cases P _ _ (ltb (d .pairs) (pairsWith d mem token)) (λ e. full (ltb-true _ _ e)) (λ e. goes (ltb-false _ _ e))
+  logging-by-cases token full goes = when-below P _ _ (d .pairs) (pairsWith d mem token) full goes
 
   pub revoking-token-by-cases :
       (token time : ℕ) (listed : List ℕ)

@@ -4,10 +4,11 @@ use mathlib.Core.Bool.{Bool, true, false, not}
 use mathlib.Core.Logic.{_↔_, _≢_}
 use mathlib.Core.Path.{_≡_, refl, sym, ap, _∙_}
 use Prim.Native.Nat.{ℕ, _≤_, _<_}
-use borrow.Author.Tests.{ltb-true, ltb-false, not-true, not-false, lt-ltb, le-ltb, le-leb, lt-leb}
-use lib.Dec.{ltb}
+use borrow.Author.Tests.{ltb-true, ltb-false, leb-true, leb-false, not-true, not-false, lt-ltb, le-ltb, le-leb, lt-leb}
+use lib.Dec.{leb, ltb}
 use Rattle.answers.specs.Number.{numberOf}
 use Rattle.answers.specs.declared.Answer.{Answer}
+use Rattle.answers.specs.declared.Answer.the-variants.{Done}
 use Rattle.base.specs.Choose.{pick, when, when-yes, when-no}
 use Rattle.steps.specs.Replies.{Left}
 use Rattle.steps.specs.declared.Reply.{Reply}
@@ -21,7 +22,17 @@ module _ {A : Type 0} (P : A → Type 0) (a rest : A) where
   unfolding when
   when-by-cases = pick-by-cases
 
-  -- The test of most refusals: k is not below n.
+  -- Whatever the test says.
+  pub either : (b : Bool) → P a → P rest → P (when b a rest)
+  either b here later = when-by-cases b (λ e. here) (λ e. later)
+
+  -- The tests of most refusals: k is below n, it is n or more, it is not below n.
+  pub when-below : (k n : ℕ) → (k < n → P a) → (n ≤ k → P rest) → P (when (ltb k n) a rest)
+  when-below k n under over = when-by-cases (ltb k n) (λ e. under (ltb-true k n e)) (λ e. over (ltb-false k n e))
+
+  pub when-from : (n k : ℕ) → (n ≤ k → P a) → (k < n → P rest) → P (when (leb n k) a rest)
+  when-from n k over under = when-by-cases (leb n k) (λ e. over (leb-true n k e)) (λ e. under (leb-false n k e))
+
   pub unless-below : (k n : ℕ) → (n ≤ k → P a) → (k < n → P rest) → P (when (not (ltb k n)) a rest)
   unless-below k n over under =
       when-by-cases (not (ltb k n))
@@ -54,6 +65,10 @@ stated false a b = b
 
 abbrev pub answerOf : Left Reply → Answer
 answerOf out = out .reply .answer
+
+-- A refusal's value is 0.
+abbrev pub NoValue : Reply → Type 0
+NoValue r = r .answer ≢ Done → r .value ≡ 0
 
 -- The answer is a exactly in the case A.
 abbrev pub Exactly : Answer → Type 0 → Left Reply → Type 0

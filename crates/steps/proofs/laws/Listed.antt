@@ -2,22 +2,21 @@
 use mathlib.Core.List.{List}
 use mathlib.Core.Path.{_≡_, ap, _∙_}
 use Prim.Native.Nat.{ℕ, _≤_, _<_}
-use borrow.Author.Tests.{ltb-true, ltb-false, lt-ltb, le-ltb}
+use borrow.Author.Tests.{lt-ltb, le-ltb}
 use lib.Dec.{ltb}
 use lib.ListN.{length}
 use Rattle.answers.specs.declared.Answer.the-variants.{BadField}
 use Rattle.base.specs.Choose.{when-yes, when-no}
 use Rattle.base.specs.Written.{written}
 use Rattle.steps.specs.Replies.{WithArea, done, refusal, intoArea}
-use Rattle.steps.proofs.laws.Cases.{when-by-cases}
+use Rattle.steps.proofs.laws.Cases.{when-below}
 
 module _ (xs area : List ℕ) where
   pub into-by-cases :
       (P : WithArea → Type 0) → (length area < length xs → P (record { reply = refusal BadField; area = area }))
       → (length xs ≤ length area → P (record { reply = done (length xs); area = written xs area })) → P (intoArea xs area)
   unfolding intoArea
-  into-by-cases P short fits =
-      when-by-cases P _ _ (ltb (length area) (length xs)) (λ e. short (ltb-true _ _ e)) (λ e. fits (ltb-false _ _ e))
+  into-by-cases P short fits = when-below P _ _ (length area) (length xs) short fits
 
   -- As code goes, which counted n.
   module _ (n : ℕ) (counted : length xs ≡ n) where
