@@ -2,21 +2,19 @@
 -- returned there is none. The lookups on the way count, and change nothing of this.
 use mathlib.Core.Bool.{Bool, true, false, true≢false}
 use mathlib.Core.List.{List}
-use mathlib.Core.Logic.{Iff·rfl, _↔_, ⊎-elim, by-cases}
+use mathlib.Core.Logic.{_↔_, ⊎-elim}
 use mathlib.Core.Path.{_≡_, refl, sym, ap, subst, _∙_}
 use Prim.Native.Nat.{ℕ, zero, suc, _+_, _<_, _≤_}
-use native.Mathlib.Decide.{ℕ-discrete}
 use native.Mathlib.Nat.{eq-or-lt-of-le}
 use native.Mathlib.Omega.{arith}
+use lib.Dec.{eqb}
 use Rattle.base.specs.Choose.{both}
 use Rattle.base.specs.Exactly.{eqb-exactly, both-exactly}
 use Rattle.registry.specs.Words.{revoked, childOf}
-use Rattle.space.specs.Lookup.{exactly, lookedUp, counted}
+use Rattle.space.specs.Lookup.{lookedUp, counted}
 use Rattle.space.specs.Sound.{SpaceOf}
-use Rattle.space.specs.Words.{slotWords}
-use Rattle.space.proofs.laws.Counted.{miss-counts, found-again, others-as-before-lookup}
-use Rattle.space.proofs.laws.Held.{has-as, answered-as-before}
-use Rattle.space.proofs.laws.Kept.{lookup-keeps}
+use Rattle.space.proofs.laws.Counted.{usedBy, counted-answers}
+use Rattle.space.proofs.laws.Held.{gotAs}
 use Rattle.steps.specs.Replies.{Left}
 use Rattle.steps.specs.Steps.{spaceOf, lookupStep, placeIn}
 use Rattle.steps.specs.declared.Reply.{Reply}
@@ -24,9 +22,7 @@ use Rattle.steps.proofs.laws.Cases.{pick-by-cases}
 use Rattle.steps.proofs.laws.OnlySpace.{lookup-step}
 use Rattle.steps.proofs.laws.Ready.{space-of}
 use Rattle.steps.proofs.laws.SpaceSteps.{lookup-step-kept}
-use Rattle.table.specs.Walk.{gotAt}
-use Rattle.table.specs.declared.Found.{Found}
-use Rattle.table.specs.declared.Found.the-variants.{At, Absent}
+use Rattle.table.specs.declared.CapabilityEntry.{CapabilityEntry}
 use Rattle.table.specs.declared.Got.{Got}
 use Rattle.table.specs.declared.Got.the-variants.{Entry, Nothing}
 use Rattle.token.specs.Rights.{common}
@@ -40,28 +36,18 @@ use Rattle.manager_laws.proofs.laws.Delegated as delegate
 use Rattle.manager_laws.proofs.laws.SameRegistered.{SameRegistered, registered-trans, same-registry, lookup-same}
 use Rattle.manager_laws.proofs.laws.SharedRights.{HeldWith}
 
--- A lookup does not change which tokens are held with which rights.
-module _ (most : ℕ) (sp : List ℕ) (is : SpaceOf most sp) (token rights : ℕ) where
-  held-again : heldWith rights (lookedUp (counted sp token) token .got) ≡ heldWith rights (lookedUp sp token .got)
-  unfolding lookedUp
-  held-again = go (exactly sp token) refl
-    where
-      go :
-          (f : Found) → exactly sp token ≡ f
-          → heldWith rights (lookedUp (counted sp token) token .got) ≡ heldWith rights (lookedUp sp token .got)
-      go (At i) e =
-          let found : lookedUp sp token .got ≡ Entry _ = ap (gotAt (slotWords sp)) e in
-          ap (heldWith rights) (found-again most sp is token _ found) ∙ sym (ap (heldWith rights) found)
-      go Absent e =
-          ap (heldWith rights)
-          (answered-as-before most sp _ token is (lookup-keeps most sp is token)
-          (λ x same. has-as _ _ x (miss-counts most sp is token e) Iff·rfl))
-
-  held-as-before : (other : ℕ) → heldWith rights (lookedUp (counted sp token) other .got) ≡ heldWith rights (lookedUp sp other .got)
-  held-as-before other =
-      by-cases (ℕ-discrete other token)
-      (λ same. rw same held-again)
-      (λ apart. ap (heldWith rights) (others-as-before-lookup most sp is token other apart))
+-- A lookup counts a use at most, so it does not change which tokens are held with which rights.
+held-as-before :
+    (most : ℕ) (sp : List ℕ) → SpaceOf most sp → (token rights other : ℕ)
+    → heldWith rights (lookedUp (counted sp token) other .got) ≡ heldWith rights (lookedUp sp other .got)
+held-as-before most sp is token rights other =
+    ap (heldWith rights) (counted-answers most sp is token other) ∙ go (lookedUp sp other .got)
+  where
+    go : (g : Got) → heldWith rights (gotAs (usedBy token) g) ≡ heldWith rights g
+    go (Entry x) =
+        pick-by-cases (λ (e : CapabilityEntry). eqb (e .rights .0) rights ≡ eqb (x .rights .0) rights) _ _ (eqb (x .capability .0) token)
+        (λ own. refl) (λ apart. refl)
+    go Nothing = refl
 
 module _ (d : Numbers) (target p cap-type rights : ℕ) where
   -- The token that place k would be offered with.
