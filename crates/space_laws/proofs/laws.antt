@@ -1,6 +1,5 @@
 -- Laws of the calls of a space, from their definitions alone.
 pub mod CheckRights
-pub mod CreateWays
 pub mod Elsewhere
 pub mod Finding
 pub mod Holding
@@ -11,3 +10,4 @@ pub mod Sound
 pub mod Told
 pub mod Unchanged
 pub mod Values
+pub mod Ways

@@ -8,13 +8,13 @@ use Prim.Native.Nat.{ℕ, _^_, _<_}
 use native.Mathlib.Omega.{arith}
 use lib.Dec.{eqb}
 use Rattle.answers.specs.Number.{numberOf}
+use Rattle.answers.specs.declared.Answer.{Answer}
 use Rattle.answers.specs.declared.Answer.the-variants.{Done}
 use Rattle.base.specs.Choose.{pick}
 use Rattle.manager_laws.proofs.laws.Ids.{Unspent}
 use Rattle.manager_laws.proofs.laws.SameIds.{only-space, insert-ids}
 use Rattle.manager_laws.proofs.laws.Spent.{SpentAt, Spent, NoneFreed, spent-still, none-refl, none-trans, none-same, take-none, taken-unspent, taken-spent}
-use Rattle.space.specs.Change.{insertOut}
-use Rattle.space_laws.proofs.laws.CreateWays.{create-by-cases}
+use Rattle.space_laws.proofs.laws.Ways.{ownToken, create-by-cases}
 use Rattle.space_laws.proofs.laws.Sound.{create-keeps}
 use Rattle.space_calls.specs.Calls.{takenReply, allocOut, createOut}
 use Rattle.steps.specs.Replies.{Left}
@@ -25,7 +25,7 @@ use Rattle.steps.specs.declared.Taken.the-variants.{Id, Exhausted}
 use Rattle.steps.proofs.laws.Entered.{world-by-cases}
 use Rattle.steps.proofs.laws.OnlySpace.{OnlySpace}
 use Rattle.steps.proofs.laws.TakeStep.{take-step-kept}
-use Rattle.token.specs.declared.capability.CapabilityToken.{CapabilityToken}
+use Rattle.table.specs.declared.CapabilityEntry.{CapabilityEntry}
 use Rattle.world.specs.Numbers.{numbersOf}
 use Rattle.world.specs.Sound.{Sound}
 use Rattle.world.specs.declared.Numbers.{Numbers}
@@ -77,22 +77,19 @@ module _ (mem : List ℕ) where
     after = takeStep (numbersOf mem) mem
 
     inserted-none :
-        rights < 2 ^ 32 → Sound mem → s < numbersOf mem .spaces → (t : CapabilityToken)
-        → NoneFreed (numbersOf mem) after (insertStep (numbersOf mem) s (newEntry (t .0) object rights) after)
-    inserted-none fits sound valid t =
-        none-same d after _ (insert-ids d after (take-step-kept d mem sound .sound) s valid (newEntry (t .0) object rights) fits)
+        Sound mem → s < numbersOf mem .spaces → (e : CapabilityEntry) → e .rights .0 < 2 ^ 32
+        → NoneFreed (numbersOf mem) after (insertStep (numbersOf mem) s e after)
+    inserted-none sound valid e fits = none-same d after _ (insert-ids d after (take-step-kept d mem sound .sound) s valid e fits)
 
     pub space-create-frees-none : rights < 2 ^ 32 → NoneFreed (numbersOf mem) mem (createOut mem s rights object .memory)
     space-create-frees-none fits =
         create-by-cases mem s rights object FreesNone (λ bad. none-refl d mem) (λ sound far. none-refl d mem)
-        (λ sound valid. take-none d mem sound)
-        (λ sound valid id is t. none-trans d mem after _ (take-none d mem sound) (inserted-none fits sound valid t))
+        (λ sound valid none. none-refl d mem)
+        (λ sound valid id is. none-trans d mem after _ (take-none d mem sound) (inserted-none sound valid _ fits))
 
     -- An insert given 0 was accepted, so the value is the id.
-    accepted :
-        (t : CapabilityToken) → insertOut (spaceOf d s after) (newEntry (t .0) object rights) .answer ≡ Done
-        → eqb (numberOf (insertOut (spaceOf d s after) (newEntry (t .0) object rights) .answer)) 0 ≡ true
-    accepted t e = ap (λ a. eqb (numberOf a) 0) e
+    accepted : (a : Answer) → a ≡ Done → eqb (numberOf a) 0 ≡ true
+    accepted a e = ap (λ a. eqb (numberOf a) 0) e
 
     abbrev IssuesNew : Left Reply → Type 0
     IssuesNew out = out .reply .answer ≡ Done → Unspent mem (out .reply .value)
@@ -100,9 +97,9 @@ module _ (mem : List ℕ) where
     pub space-create-new : createOut mem s rights object .reply .answer ≡ Done → Unspent mem (createOut mem s rights object .reply .value)
     space-create-new =
         create-by-cases mem s rights object IssuesNew (λ bad e. absurd (omega (arith, ap numberOf e)))
-        (λ sound far e. absurd (omega (arith, ap numberOf e))) (λ sound valid e. absurd (omega (arith, ap numberOf e)))
-        (λ sound valid id is t e x spent.
-        subst (λ b. pick b id 0 ≢ x) (sym (accepted t e)) (taken-unspent d mem sound id x is spent))
+        (λ sound far e. absurd (omega (arith, ap numberOf e))) (λ sound valid none e. absurd (omega (arith, ap numberOf e)))
+        (λ sound valid id is e x spent.
+        subst (λ b. pick b id 0 ≢ x) (sym (accepted _ e)) (taken-unspent d mem sound id x is spent))
 
     abbrev Issues : Left Reply → Type 0
     Issues out = out .reply .answer ≡ Done → SpentAt (numbersOf mem) (out .memory) (out .reply .value)
@@ -110,10 +107,11 @@ module _ (mem : List ℕ) where
     issues : rights < 2 ^ 32 → Issues (createOut mem s rights object)
     issues fits =
         create-by-cases mem s rights object Issues (λ bad e. absurd (omega (arith, ap numberOf e)))
-        (λ sound far e. absurd (omega (arith, ap numberOf e))) (λ sound valid e. absurd (omega (arith, ap numberOf e)))
-        (λ sound valid id is t e.
-        subst (λ b. SpentAt d (insertStep d s (newEntry (t .0) object rights) after) (pick b id 0)) (sym (accepted t e))
-        (spent-still d after _ id (inserted-none fits sound valid t) (taken-spent d mem sound id is)))
+        (λ sound far e. absurd (omega (arith, ap numberOf e))) (λ sound valid none e. absurd (omega (arith, ap numberOf e)))
+        (λ sound valid id is e.
+        let own : CapabilityEntry = newEntry (ownToken (spaceOf d s after) id) object rights in
+        subst (λ b. SpentAt d (insertStep d s own after) (pick b id 0)) (sym (accepted _ e))
+        (spent-still d after _ id (inserted-none sound valid own fits) (taken-spent d mem sound id is)))
 
     pub space-create-issued :
         Sound mem → rights < 2 ^ 32 → createOut mem s rights object .reply .answer ≡ Done

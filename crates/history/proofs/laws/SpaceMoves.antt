@@ -4,10 +4,9 @@ use Prim.Native.Nat.{ℕ, _^_, _<_}
 use Rattle.answers.specs.declared.Answer.{Answer}
 use Rattle.history.specs.Counts.{given0}
 use Rattle.steps.proofs.laws.Cases.{unless-below}
-use Rattle.space.specs.Words.{generationOf}
 use Rattle.space_calls.specs.Calls.{insertCallOut, removeOut, incrementOut, clearOut, revokeAllOut, copyOut, allocOut, createOut, revokeMade, revokeOut}
 use Rattle.space_reads.specs.Calls.{lookupOut, lookupEntryOut, checkRightsOut}
-use Rattle.space_laws.proofs.laws.CreateWays.{create-by-cases}
+use Rattle.space_laws.proofs.laws.Ways.{made-by-cases, create-by-cases}
 use Rattle.steps.specs.Enter.{onSpace}
 use Rattle.steps.specs.Replies.{Left, refuse}
 use Rattle.steps.specs.Steps.{spaceOf, newEntry}
@@ -15,9 +14,6 @@ use Rattle.steps.specs.declared.Reply.{Reply}
 use Rattle.steps.proofs.laws.Entered.{world-by-cases, space-by-cases}
 use Rattle.steps.proofs.laws.SpaceSteps.{clear-step-kept}
 use Rattle.steps.proofs.laws.TakeStep.{take-step-kept}
-use Rattle.token.specs.Token.{made}
-use Rattle.token.specs.declared.capability.Made.{Made}
-use Rattle.token.specs.declared.capability.Made.the-variants.{Token, Refused}
 use Rattle.world.specs.Numbers.{numbersOf}
 use Rattle.world.specs.Sound.{Sound}
 use Rattle.world.specs.declared.Numbers.{Numbers}
@@ -72,11 +68,11 @@ module _ (mem : List ℕ) (sound : Sound mem) (s : ℕ) (inside : s < numbersOf 
 
   pub revoke-calm : (t id : ℕ) → Quiet (numbersOf mem) s mem (revokeOut mem t id .memory)
   unfolding revokeOut
-  revoke-calm t id = calm _ t _ (λ there. go there (made id (generationOf (spaceOf d t mem)) 0 0))
-    where
-      go : t < d .spaces → (m : Made) → Calm (revokeMade d t mem m)
-      go there (Token k) = remove-quiet d s inside mem sound t there (k .0)
-      go there (Refused a) = quiet-refl d s mem
+  revoke-calm t id =
+      calm _ t _
+      (λ there.
+      made-by-cases (λ m. Calm (revokeMade d t mem m)) (spaceOf d t mem) id (λ over. quiet-refl d s mem)
+      (λ fits. remove-quiet d s inside mem sound t there _))
 
   pub alloc-calm : Quiet (numbersOf mem) s mem (allocOut mem .memory)
   unfolding allocOut
@@ -106,12 +102,10 @@ module _ (mem : List ℕ) (sound : Sound mem) (s : ℕ) (inside : s < numbersOf 
 
   pub create-call-pays : (t rights object : ℕ) → rights < 2 ^ 32 → Paid t (createOut mem t rights object)
   create-call-pays t rights object fits =
-      let took = take-quiet d s inside mem sound in
-      create-by-cases mem t rights object (Paid t) (λ bad. unpaid t _) (λ sound far. unpaid t _)
-      (λ sound there. quiet-pays d s mem _ t _ took)
-      (λ sound there id is k.
-      quiet-first d s mem _ _ _ _ took
-      (insert-pays d s inside _ (take-step-kept d mem sound .sound) t there (newEntry (k .0) object rights) fits))
+      create-by-cases mem t rights object (Paid t) (λ bad. unpaid t _) (λ sound far. unpaid t _) (λ sound there none. unpaid t _)
+      (λ sound there id is.
+      quiet-first d s mem _ _ _ _ (take-quiet d s inside mem sound)
+      (insert-pays d s inside _ (take-step-kept d mem sound .sound) t there _ fits))
 
   -- A copy's value is what it accepted.
   pub copy-call-pays :

@@ -1,34 +1,24 @@
 -- After a call on space s, every other space, the log, every queue and the head are as they were, and of the registry only holders differ;
 -- a call that takes an id changes recycled ids and the next id besides. This holds on every memory, whatever the answer.
-use mathlib.Core.Bool.{Bool, true, false, not}
 use mathlib.Core.List.{List}
-use mathlib.Core.Path.{_≡_, refl}
 use Prim.Native.Nat.{ℕ, _^_, _<_}
-use borrow.Author.Tests.{ltb-true}
-use lib.Dec.{ltb}
 use Rattle.answers.specs.declared.Answer.{Answer}
-use Rattle.answers.specs.declared.Answer.the-variants.{BadSpace}
-use Rattle.base.specs.Choose.{when}
-use Rattle.space.specs.Words.{generationOf}
 use Rattle.steps.specs.Enter.{onSpace}
-use Rattle.steps.specs.Steps.{spaceOf, copyStep, takenId, takeStep, newEntry}
-use Rattle.steps.specs.declared.Taken.{Taken}
-use Rattle.steps.specs.declared.Taken.the-variants.{Id, Exhausted}
+use Rattle.steps.specs.Steps.{spaceOf, takeStep, newEntry}
 use Rattle.steps.proofs.laws.SpaceSteps.{clear-step-kept}
 use Rattle.steps.proofs.laws.TakeStep.{take-step-kept}
-use Rattle.token.specs.Token.{made}
-use Rattle.token.specs.declared.capability.Made.{Made}
-use Rattle.token.specs.declared.capability.Made.the-variants.{Token, Refused}
 use Rattle.world.specs.Numbers.{numbersOf}
 use Rattle.world.specs.Sound.{Sound}
 use Rattle.world.specs.declared.Numbers.{Numbers}
-use Rattle.space_calls.specs.Calls.{insertCallOut, removeOut, incrementOut, clearOut, revokeAllOut, copyOut, allocOut, createMade, createTaken, createOut, revokeMade, revokeOut}
+use Rattle.space_calls.specs.Calls.{insertCallOut, removeOut, incrementOut, clearOut, revokeAllOut, copyOut, allocOut, createOut, revokeMade, revokeOut}
 use Rattle.space_reads.specs.Calls.{lookupOut, lookupEntryOut, checkRightsOut}
-use Rattle.steps.specs.Replies.{Left, refuse}
+use Rattle.steps.specs.Replies.{Left}
 use Rattle.steps.specs.declared.Reply.{Reply}
+use Rattle.steps.proofs.laws.Cases.{unless-below}
 use Rattle.steps.proofs.laws.Entered.{world-by-cases, space-by-cases}
 use Rattle.steps.proofs.laws.OnlyIds.{OnlyIds, only-no-id, take-step}
 use Rattle.steps.proofs.laws.OnlySpace.{OnlySpace, only-refl, only-trans, lookup-step, next-step, insert-step, remove-step, clear-step, copy-step}
+use Rattle.space_laws.proofs.laws.Ways.{made-by-cases, create-by-cases}
 
 -- Ids are taken, then space s and holders change.
 pub record IdsAndSpace (d : Numbers) (s : ℕ) (mem after : List ℕ) : Type 0 where
@@ -93,22 +83,20 @@ module _ (mem : List ℕ) where
       only-trans d s mem _ _ (clear-step d mem sound s valid .only) (next-step d _ (emptied .sound) s valid .only))
 
   pub copy-only : (target source : ℕ) → OnlySpace (numbersOf mem) target mem (copyOut mem target source .memory)
-  unfolding copyOut when
-  copy-only target source = on-space _ target _ (λ sound valid. go sound valid _ (ltb source (d .spaces)) refl)
-    where
-      go :
-          Sound mem → target < d .spaces → (r : Reply) (b : Bool) → ltb source (d .spaces) ≡ b
-          → Only target (when (not b) (refuse mem BadSpace) (record { reply = r; memory = copyStep d target source mem }))
-      go sound valid r true l = copy-step d mem sound target valid source (ltb-true source (d .spaces) l) .only
-      go sound valid r false l = only-refl d target mem
+  unfolding copyOut
+  copy-only target source =
+      on-space _ target _
+      (λ sound valid.
+      unless-below (Only target) _ _ source (d .spaces) (λ far. only-refl d target mem)
+      (λ there. copy-step d mem sound target valid source there .only))
 
   pub revoke-only : (s id : ℕ) → OnlySpace (numbersOf mem) s mem (revokeOut mem s id .memory)
   unfolding revokeOut
-  revoke-only s id = on-space _ s _ (λ sound valid. go sound valid (made id (generationOf (spaceOf d s mem)) 0 0))
-    where
-      go : Sound mem → s < d .spaces → (m : Made) → Only s (revokeMade d s mem m)
-      go sound valid (Token t) = remove-step d mem sound s valid (t .0) .only
-      go sound valid (Refused a) = only-refl d s mem
+  revoke-only s id =
+      on-space _ s _
+      (λ sound valid.
+      made-by-cases (λ m. Only s (revokeMade d s mem m)) (spaceOf d s mem) id (λ over. only-refl d s mem)
+      (λ fits. remove-step d mem sound s valid _ .only))
 
   -- ---- ids
 
@@ -118,22 +106,12 @@ module _ (mem : List ℕ) where
       world-by-cases (λ (out : Left Reply). OnlyIds d mem (out .memory)) _ mem _ (λ bad. only-no-id d mem) (λ sound. take-step d mem sound)
 
   pub create-only : (s rights object : ℕ) → rights < 2 ^ 32 → IdsAndSpace (numbersOf mem) s mem (createOut mem s rights object .memory)
-  unfolding createOut
   create-only s rights object fits =
-      space-by-cases (λ (out : Left Reply). IdsAndSpace d s mem (out .memory)) _ mem _ (λ bad. as-it-is) s (λ sound far. as-it-is)
-      (λ sound valid. record { between = after; ids = take-step d mem sound; only = taken sound valid (takenId d mem) })
-    where
-      after : List ℕ
-      after = takeStep d mem
-
-      as-it-is : IdsAndSpace d s mem mem
-      as-it-is = record { between = mem; ids = only-no-id d mem; only = only-refl d s mem }
-
-      tokened : Sound mem → s < d .spaces → (id : ℕ) (m : Made) → OnlySpace d s after (createMade d s rights object id after m .memory)
-      tokened sound valid id (Token t) =
-          insert-step d after (take-step-kept d mem sound .sound) s valid (newEntry (t .0) object rights) fits .only
-      tokened sound valid id (Refused a) = only-refl d s after
-
-      taken : Sound mem → s < d .spaces → (t : Taken) → OnlySpace d s after (createTaken d s rights object after t .memory)
-      taken sound valid (Id id) = tokened sound valid id (made id (generationOf (spaceOf d s after)) 0 0)
-      taken sound valid Exhausted = only-refl d s after
+      let as-it-is : IdsAndSpace d s mem mem = record { between = mem; ids = only-no-id d mem; only = only-refl d s mem } in
+      create-by-cases mem s rights object (λ out. IdsAndSpace d s mem (out .memory)) (λ bad. as-it-is) (λ sound far. as-it-is)
+      (λ sound valid none. as-it-is)
+      (λ sound valid id is. record {
+        between = takeStep d mem;
+        ids = take-step d mem sound;
+        only = insert-step d _ (take-step-kept d mem sound .sound) s valid _ fits .only;
+      })

@@ -1,45 +1,34 @@
 -- An accepted insert is found, and stays found until it is removed, cleared or copied over: every other call leaves the entry with its
 -- token, object and rights, and with its uses but for a lookup of that very token.
-use mathlib.Core.Bool.{Bool, true, false}
 use mathlib.Core.List.{List}
 use mathlib.Core.Logic.{Iff·rfl, _≢_, _⊎_, inl, inr, ⊎-elim, by-cases}
 use mathlib.Core.Path.{_≡_, refl, sym, ap, subst, _∙_}
-use Prim.Native.Nat.{ℕ, _-_, _%_, _^_, _<_}
+use Prim.Native.Nat.{ℕ, _%_, _^_, _<_}
 use native.Mathlib.Decide.{ℕ-discrete}
 use native.Mathlib.Omega.{arith}
-use borrow.Author.Tests.{ltb-false}
-use lib.Dec.{ltb}
 use Rattle.answers.specs.Number.{numberOf}
 use Rattle.answers.specs.declared.Answer.{Answer}
-use Rattle.answers.specs.declared.Answer.the-variants.{Done, BadField}
-use Rattle.base.specs.Choose.{pick}
+use Rattle.answers.specs.declared.Answer.the-variants.{Done}
 use Rattle.space.specs.Change.{insertOut, removedToken, nextGeneration}
 use Rattle.space.specs.Lookup.{lookedUp, counted}
 use Rattle.space.specs.Sound.{SpaceOf}
-use Rattle.space.specs.Words.{generationOf}
 use Rattle.space.proofs.laws.Counted.{used, found-again, others-as-before-lookup}
 use Rattle.space.proofs.laws.Held.{has-as, got-exactly, answered-as-before, insert-holds, inserted-is-found, others-as-before-remove}
 use Rattle.space.proofs.laws.Insert.{zero-is-done, refused-changes-nothing}
 use Rattle.space.proofs.laws.Kept.{fits, insert-keeps, next-keeps}
 use Rattle.space.proofs.laws.View.{view-next}
 use Rattle.steps.specs.Enter.{onSpace}
-use Rattle.steps.specs.Steps.{spaceOf, lookupStep, insertStep, removeStep, takenId, takeStep, newEntry}
-use Rattle.steps.specs.declared.Taken.{Taken}
-use Rattle.steps.specs.declared.Taken.the-variants.{Id, Exhausted}
+use Rattle.steps.specs.Steps.{spaceOf, lookupStep, insertStep, removeStep, takeStep, newEntry}
 use Rattle.steps.proofs.laws.Kept.{Kept, kept-sound}
 use Rattle.steps.proofs.laws.Ready.{space-of}
 use Rattle.steps.proofs.laws.SpaceSteps.{lookup-step-kept, next-step-kept, insert-step-kept, remove-step-kept}
 use Rattle.steps.proofs.laws.TakeStep.{take-step-kept}
 use Rattle.table.specs.declared.CapabilityEntry.{CapabilityEntry}
 use Rattle.table.specs.declared.Got.the-variants.{Entry}
-use Rattle.token.specs.Token.{packed, made}
-use Rattle.token.specs.declared.capability.CapabilityToken.{CapabilityToken}
-use Rattle.token.specs.declared.capability.Made.{Made}
-use Rattle.token.specs.declared.capability.Made.the-variants.{Token, Refused}
 use Rattle.world.specs.Numbers.{numbersOf}
 use Rattle.world.specs.Sound.{Sound}
 use Rattle.world.specs.declared.Numbers.{Numbers}
-use Rattle.space_calls.specs.Calls.{insertCallOut, removeOut, incrementOut, clearOut, revokeAllOut, copyOut, allocOut, createMade, createTaken, createOut, revokeMade, revokeOut}
+use Rattle.space_calls.specs.Calls.{insertCallOut, removeOut, incrementOut, clearOut, revokeAllOut, copyOut, allocOut, createOut, revokeMade, revokeOut}
 use Rattle.space_reads.specs.Calls.{lookupOut, lookupEntryOut, checkRightsOut}
 use Rattle.steps.specs.Replies.{Left}
 use Rattle.space_reads.specs.Replies.{wholeEntry, entryReply}
@@ -50,6 +39,7 @@ use Rattle.steps.proofs.laws.Entered.{world-by-cases, space-by-cases, space-cal
 use Rattle.steps.proofs.laws.OnlyIds.{take-step}
 use Rattle.steps.proofs.laws.OnlySpace.{OnlySpace, Step, lookup-step, next-step, insert-step, remove-step}
 use Rattle.space_laws.proofs.laws.Sound.{clear-keeps, revoke-all-keeps, copy-keeps}
+use Rattle.space_laws.proofs.laws.Ways.{ownToken, made-by-cases, create-by-cases}
 
 -- Space s of a sound memory has the entry x under the token.
 pub record Holding (mem : List ℕ) (s token : ℕ) (x : CapabilityEntry) : Type 0 where
@@ -100,18 +90,6 @@ accepted-is-answered mem s token object rights fits done =
     (_, holding-answers _ s token _ (accepted-is-found mem s token object rights fits done))
 
 -- ---- it stays
-
--- The token that a space makes of an id has that id.
-made-id : (id generation : ℕ) (t : CapabilityToken) → made id generation 0 0 ≡ Token t → t .0 % 2 ^ 48 ≡ id
-made-id id generation t = go (ltb (2 ^ 48 - 1) id) refl
-  where
-    go :
-        (b : Bool) → ltb (2 ^ 48 - 1) id ≡ b → pick b (Refused BadField) (Token (record { 0 = packed id generation 0 0 })) ≡ Token t
-        → t .0 % 2 ^ 48 ≡ id
-    go true l e = let z : _≡_ {A = ℕ} 0 1 = cc in absurd (omega arith)
-    go false l e =
-        let is : record { 0 = packed id generation 0 0 } ≡ t = cc in
-        omega (arith, ltb-false (2 ^ 48 - 1) id l, ap (λ (t : CapabilityToken). t .0) is)
 
 module _ (mem : List ℕ) (s token : ℕ) (x : CapabilityEntry) (h : Holding mem s token x) where
   abbrev d : Numbers
@@ -280,41 +258,24 @@ module _ (mem : List ℕ) (s token : ℕ) (x : CapabilityEntry) (h : Holding mem
   pub stays-after-revoke : (s′ id : ℕ) → (s ≢ s′) ⊎ (token % 2 ^ 48 ≢ id) → Holding (revokeOut mem s′ id .memory) s token x
   unfolding revokeOut
   stays-after-revoke s′ id other =
-      made-or-not _ s′ _ (λ valid. go valid (made id (generationOf (spaceOf d s′ mem)) 0 0) (made-id id (generationOf (spaceOf d s′ mem))))
-    where
-      go :
-          s′ < d .spaces → (m : Made) → ((t : CapabilityToken) → m ≡ Token t → t .0 % 2 ^ 48 ≡ id)
-          → Holding (revokeMade d s′ mem m .memory) s token x
-      go valid (Token t) is =
-          removed-step s′ (t .0)
-          (⊎-elim (λ apart. inl apart) (λ apart. inr (λ same. apart (ap (λ w. w % 2 ^ 48) same ∙ is t refl))) other)
-          valid
-      go valid (Refused a) is = h
+      made-or-not _ s′ _
+      (λ valid.
+      made-by-cases (λ m. Holding (revokeMade d s′ mem m .memory) s token x) (spaceOf d s′ mem) id (λ over. h)
+      (λ fits.
+      removed-step s′ (ownToken (spaceOf d s′ mem) id)
+      (⊎-elim (λ apart. inl apart) (λ apart. inr (λ same. apart (omega (arith, same, fits)))) other)
+      valid))
 
 -- The space's create, of any id.
 pub stays-after-create :
     (mem : List ℕ) (s token : ℕ) (x : CapabilityEntry) → Holding mem s token x → (s′ rights object : ℕ) → rights < 2 ^ 32
     → Holding (createOut mem s′ rights object .memory) s token x
-unfolding createOut
-stays-after-create mem s token x h s′ rights object fits = made-or-not mem s token x h _ s′ _ (λ valid. taken valid (takenId d mem))
-  where
-    d : Numbers
-    d = numbersOf mem
-
-    after : List ℕ
-    after = takeStep d mem
-
-    held : Holding after s token x
-    held = taken-step mem s token x h
-
-    tokened : s′ < d .spaces → (id : ℕ) (m : Made) → Holding (createMade d s′ rights object id after m .memory) s token x
-    tokened valid id (Token t) =
-        let same : numbersOf after ≡ d = take-step-kept d mem (h .sound) .numbers in
-        let e : CapabilityEntry = newEntry (t .0) object rights in
-        subst (λ (d : Numbers). Holding (insertStep d s′ e after) s token x) same
-        (inserted-step after s token x held s′ e fits (subst (λ (d : Numbers). s′ < d .spaces) (sym same) valid))
-    tokened valid id (Refused a) = held
-
-    taken : s′ < d .spaces → (t : Taken) → Holding (createTaken d s′ rights object after t .memory) s token x
-    taken valid (Id id) = tokened valid id (made id (generationOf (spaceOf d s′ after)) 0 0)
-    taken valid Exhausted = held
+stays-after-create mem s token x h s′ rights object fits =
+    create-by-cases mem s′ rights object (λ out. Holding (out .memory) s token x) (λ bad. h) (λ sound far. h) (λ sound valid none. h)
+    (λ sound valid id is.
+    let d : Numbers = numbersOf mem in
+    let after : List ℕ = takeStep d mem in
+    let e : CapabilityEntry = newEntry (ownToken (spaceOf d s′ after) id) object rights in
+    let same : numbersOf after ≡ d = take-step-kept d mem sound .numbers in
+    subst (λ (d : Numbers). Holding (insertStep d s′ e after) s token x) same
+    (inserted-step after s token x (taken-step mem s token x h) s′ e fits (subst (λ (d : Numbers). s′ < d .spaces) (sym same) valid)))

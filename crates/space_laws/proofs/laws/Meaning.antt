@@ -1,15 +1,12 @@
 -- The calls on a whole space in a user's words: it says its facts, a lookup only counts, a clear leaves nothing, a copy answers as its
 -- source did.
-use mathlib.Core.Bool.{Bool, true, false, not}
 use mathlib.Core.List.{List}
 use mathlib.Core.Logic.{Iff·rfl}
-use mathlib.Core.Path.{_≡_, refl, sym, ap, subst, _∙_}
+use mathlib.Core.Path.{_≡_, sym, ap, subst, _∙_}
 use Prim.Native.Nat.{ℕ, _+_, _%_, _^_, _<_}
 use native.Mathlib.Omega.{arith}
-use borrow.Author.Tests.{ltb-true}
-use lib.Dec.{ltb}
-use Rattle.answers.specs.declared.Answer.the-variants.{Done, BadSpace}
-use Rattle.base.specs.Choose.{when}
+use Rattle.answers.specs.Number.{numberOf}
+use Rattle.answers.specs.declared.Answer.the-variants.{Done}
 use Rattle.space.specs.Change.{cleared, nextGeneration}
 use Rattle.space.specs.Lookup.{up, exactly, lookedUp, counted}
 use Rattle.space.specs.Sound.{SpaceOf}
@@ -30,10 +27,11 @@ use Rattle.world.specs.Sound.{SoundAt, Sound}
 use Rattle.world.specs.declared.Numbers.{Numbers}
 use Rattle.space_calls.specs.Calls.{clearOut, revokeAllOut, copyOut}
 use Rattle.space_reads.specs.Calls.{factsOut, factOut, usedOut, capacityOut, lookupOut}
-use Rattle.steps.specs.Replies.{Left, replied, refuse, done}
+use Rattle.steps.specs.Replies.{Left, replied, done}
 use Rattle.steps.specs.declared.Facts.{Facts}
 use Rattle.steps.specs.declared.Reply.{Reply}
 use Rattle.space_reads.specs.declared.FactsReply.{FactsReply}
+use Rattle.steps.proofs.laws.Cases.{unless-below}
 use Rattle.steps.proofs.laws.Entered.{done-made, space-called}
 use Rattle.steps.proofs.laws.OnlySpace.{lookup-step, next-step, clear-step, copy-step}
 
@@ -169,17 +167,11 @@ copied-as d mem target source sound to from =
 pub copy-is-a-copy :
     (mem : List ℕ) (target source : ℕ) → copyOut mem target source .reply .answer ≡ Done
     → CopyOf (numbersOf mem) target source mem (copyOut mem target source .memory)
-unfolding copyOut when
+unfolding copyOut
 copy-is-a-copy mem target source =
+    let d : Numbers = numbersOf mem in
     done-made mem target _ (λ out. CopyOf d target source mem (out .memory))
-    (λ sound valid answered. go sound valid _ (ltb source (d .spaces)) refl answered)
-  where
-    d : Numbers
-    d = numbersOf mem
-
-    go :
-        Sound mem → target < d .spaces → (r : Reply) (b : Bool) → ltb source (d .spaces) ≡ b
-        → let out = when (not b) (refuse mem BadSpace) (record { reply = r; memory = copyStep d target source mem }) in
-        out .reply .answer ≡ Done → CopyOf d target source mem (out .memory)
-    go sound valid r true l e = copied-as d mem target source sound valid (ltb-true source (d .spaces) l)
-    go sound valid r false l e = let z : _≡_ {A = ℕ} 0 1 = cc in absurd (omega arith)
+    (λ sound valid.
+    unless-below (λ (out : Left Reply). out .reply .answer ≡ Done → CopyOf d target source mem (out .memory)) _ _ source (d .spaces)
+    (λ far e. absurd (omega (arith, ap numberOf e)))
+    (λ there e. copied-as d mem target source sound valid there))

@@ -1,21 +1,17 @@
 -- 26 is answered exactly on memory that is not sound, 20 exactly on a sound one for a space number of S or more.
-use mathlib.Core.Bool.{Bool, true, false, not}
 use mathlib.Core.List.{List}
-use mathlib.Core.Logic.{_↔_, _⊎_, inl, inr, ⊎-elim}
-use mathlib.Core.Path.{_≡_, refl, ap}
-use Prim.Native.Nat.{ℕ, _-_, _^_, _≤_, _<_}
+use mathlib.Core.Logic.{_↔_, _≢_, _⊎_, inl, inr, ⊎-elim}
+use mathlib.Core.Path.{_≡_, refl}
+use Prim.Native.Nat.{ℕ, _≤_}
 use native.Mathlib.Omega.{arith}
-use borrow.Author.Tests.{ltb-true, ltb-false}
-use lib.Dec.{leb, ltb}
 use Rattle.answers.specs.Number.{numberOf}
 use Rattle.answers.specs.declared.Answer.{Answer}
 use Rattle.answers.specs.declared.Answer.the-variants.{Done, AlreadyExists, NotFound, IdExhausted, SpaceQuota, SpaceIds, BadSpace, BadField, BadWorld}
-use Rattle.base.specs.Choose.{pick, when}
 use Rattle.space.specs.Change.{InsertOut, insertOut}
 use Rattle.space.specs.Lookup.{lookedUp, gotEntry}
-use Rattle.space.specs.Words.{generationOf, tableOf, slotWords}
+use Rattle.space.specs.Words.{tableOf, slotWords}
 use Rattle.space.proofs.laws.Insert.{insert-by-cases}
-use Rattle.steps.specs.Steps.{spaceOf, takenId, takeStep, newEntry}
+use Rattle.steps.specs.Steps.{spaceOf, takenId, newEntry}
 use Rattle.steps.specs.declared.Taken.{Taken}
 use Rattle.steps.specs.declared.Taken.the-variants.{Id, Exhausted}
 use Rattle.table.specs.Copy.{nthOf}
@@ -25,22 +21,20 @@ use Rattle.table.specs.declared.Got.{Got}
 use Rattle.table.specs.declared.Got.the-variants.{Entry, Nothing}
 use Rattle.table.specs.declared.Nth.{Nth}
 use Rattle.table.specs.declared.Nth.the-variants as nth
-use Rattle.token.specs.Token.{packed, made}
-use Rattle.token.specs.declared.capability.Made.{Made}
-use Rattle.token.specs.declared.capability.Made.the-variants.{Token, Refused}
 use Rattle.world.specs.Numbers.{numbersOf}
 use Rattle.world.specs.Sound.{Sound}
 use Rattle.world.specs.declared.Numbers.{Numbers}
-use Rattle.space_calls.specs.Calls.{insertCallOut, removeOut, incrementOut, clearOut, revokeAllOut, copyOut, takenReply, allocOut, createMade, createTaken, createOut, revokeMade, revokeOut}
+use Rattle.space_calls.specs.Calls.{insertCallOut, removeOut, incrementOut, clearOut, revokeAllOut, copyOut, takenReply, allocOut, createOut, revokeMade, revokeOut}
 use Rattle.space_reads.specs.Calls.{factsOut, lookupOut, lookupEntryOut, checkRightsOut, getEntryOut, nthEntryOut}
 use Rattle.steps.specs.Replies.{Left, refuse}
-use Rattle.space_reads.specs.Replies.{foundReply, heldReply, noEntry, entryReply, nthReply}
+use Rattle.space_reads.specs.Replies.{foundReply, heldReply, entryReply, nthReply}
 use Rattle.space_reads.specs.declared.EntryReply.{EntryReply}
 use Rattle.steps.specs.declared.Reply.{Reply}
 use Rattle.space_reads.specs.declared.FactsReply.{FactsReply}
-use Rattle.steps.proofs.laws.Cases.{answerOf}
+use Rattle.steps.proofs.laws.Cases.{answerOf, given, not-given, either, unless-below}
 use Rattle.steps.proofs.laws.Entered.{space-by-cases}
-use Rattle.steps.proofs.laws.Told.{Told, Inner, told, world-told, inner, inner-0}
+use Rattle.steps.proofs.laws.Told.{Told, Inner, told-26, told-20, told-own, told, world-told, inner, inner-0}
+use Rattle.space_laws.proofs.laws.Ways.{ownToken, made-by-cases, create-by-cases}
 
 -- ---- the calls' own answers
 
@@ -100,14 +94,12 @@ module _ (mem : List ℕ) (s : ℕ) where
       told answerOf _ mem _ (λ a. refl) (inner-held required (lookedUp sp token .got) (lookedUp sp token .visits)) s
 
   pub get-entry-entered : (id : ℕ) → Told mem s (getEntryOut mem s id .answer)
-  unfolding getEntryOut when
+  unfolding getEntryOut
   get-entry-entered id =
+      let l = gotEntry sp id in
       told (λ (r : EntryReply). r .answer) _ mem _ (λ a. refl)
-      (go (leb (2 ^ 48) id) (gotEntry sp id .got) (gotEntry sp id .visits)) s
-    where
-      go : (b : Bool) (got : Got) (visits : ℕ) → Inner (when b (noEntry BadField 0) (entryReply got visits) .answer)
-      go true got visits = inner BadField refl refl
-      go false got visits = inner-entry got visits
+      (either (λ (r : EntryReply). Inner (r .answer)) _ _ _ (inner BadField refl refl) (inner-entry (l .got) (l .visits)))
+      s
 
   pub nth-entry-entered : (n : ℕ) → Told mem s (nthEntryOut mem s n .answer)
   unfolding nthEntryOut
@@ -137,31 +129,19 @@ module _ (mem : List ℕ) (s : ℕ) where
   revoke-all-entered = told answerOf _ mem _ (λ a. refl) inner-0 s
 
   pub create-entered : (rights object : ℕ) → Told mem s (createOut mem s rights object .reply .answer)
-  unfolding createOut
-  create-entered rights object = told answerOf _ mem _ (λ a. refl) (taken (takenId d mem)) s
-    where
-      after : List ℕ
-      after = takeStep d mem
-
-      tokened : (id : ℕ) (m : Made) → Inner (createMade d s rights object id after m .reply .answer)
-      tokened id (Token t) = inner-insert (spaceOf d s after) (newEntry (t .0) object rights)
-      tokened id (Refused a) = inner SpaceIds refl refl
-
-      taken : (t : Taken) → Inner (createTaken d s rights object after t .reply .answer)
-      taken (Id id) = tokened id (made id (generationOf (spaceOf d s after)) 0 0)
-      taken Exhausted = inner SpaceIds refl refl
+  create-entered rights object =
+      create-by-cases mem s rights object (λ out. Told mem s (answerOf out)) (told-26 mem s) (told-20 mem s)
+      (λ sound there none. told-own mem s sound there SpaceIds (inner SpaceIds refl refl))
+      (λ sound there id is. told-own mem s sound there _ (inner-insert _ _))
 
   pub revoke-entered : (id : ℕ) → Told mem s (revokeOut mem s id .reply .answer)
   unfolding revokeOut
-  revoke-entered id = told answerOf _ mem _ (λ a. refl) (go (ltb (2 ^ 48 - 1) id)) s
-    where
-      go :
-          (b : Bool)
-          → Inner (revokeMade d s mem (pick b (Refused BadField) (Token (record { 0 = packed id (generationOf sp) 0 0 }))) .reply .answer)
-      go true = inner BadField refl refl
-      go false =
-          let token : ℕ = packed id (generationOf sp) 0 0 in
-          inner-found (λ e. 0) (lookedUp sp token .got) (lookedUp sp token .visits)
+  revoke-entered id =
+      let l = lookedUp sp (ownToken sp id) in
+      told answerOf _ mem _ (λ a. refl)
+      (made-by-cases (λ m. Inner (revokeMade d s mem m .reply .answer)) sp id (λ over. inner BadField refl refl)
+      (λ fits. inner-found (λ e. 0) (l .got) (l .visits)))
+      s
 
 -- A call without a space is never answered 20.
 pub alloc-entered : (mem : List ℕ) → (allocOut mem .reply .answer ≡ BadWorld) ↔ (¬ Sound mem)
@@ -174,37 +154,27 @@ pub copy-entered :
     → ((copyOut mem target source .reply .answer ≡ BadWorld) ↔ (¬ Sound mem))
     × ((copyOut mem target source .reply .answer ≡ BadSpace)
     ↔ (Sound mem × ((numbersOf mem .spaces ≤ target) ⊎ (numbersOf mem .spaces ≤ source))))
-unfolding copyOut when
+unfolding copyOut
 copy-entered mem target source =
-    space-by-cases (λ (out : Left Reply). Both (out .reply .answer)) (refuse mem) mem _
-    (λ bad. (
-      (λ e. bad, λ b. refl),
-      (λ e. absurd (omega (arith, ap numberOf e)), λ (sound, far). absurd (bad sound)),
-    ))
+    space-by-cases Both (refuse mem) mem _
+    (λ bad. (given refl bad, not-given BadWorld BadSpace (λ e. omega (arith, e)) (λ (sound, far). bad sound)))
     target
-    (λ sound far. (
-      (λ e. absurd (omega (arith, ap numberOf e)), λ bad. absurd (bad sound)),
-      (λ e. (sound, inl far), λ any. refl),
-    ))
-    (λ sound valid. go sound valid _ (ltb source (d .spaces)) refl refl)
+    (λ sound far. (not-26 BadSpace sound (λ e. omega arith), given refl (sound, inl far)))
+    (λ sound valid.
+    unless-below Both _ _ source (d .spaces)
+    (λ far. (not-26 BadSpace sound (λ e. omega arith), given refl (sound, inr far)))
+    (λ there. (
+      not-26 Done sound (λ e. omega arith),
+      not-given Done BadSpace (λ e. omega (arith, e)) (λ (sound, far). ⊎-elim (λ f. omega arith) (λ f. omega arith) far),
+    )))
   where
     d : Numbers
     d = numbersOf mem
 
-    Both : Answer → Type 0
-    Both a = ((a ≡ BadWorld) ↔ (¬ Sound mem)) × ((a ≡ BadSpace) ↔ (Sound mem × ((d .spaces ≤ target) ⊎ (d .spaces ≤ source))))
+    Both : Left Reply → Type 0
+    Both out =
+        ((answerOf out ≡ BadWorld) ↔ (¬ Sound mem))
+        × ((answerOf out ≡ BadSpace) ↔ (Sound mem × ((d .spaces ≤ target) ⊎ (d .spaces ≤ source))))
 
-    go :
-        Sound mem → target < d .spaces → (out : Left Reply) (b : Bool) → ltb source (d .spaces) ≡ b → out .reply .answer ≡ Done
-        → Both (when (not b) (refuse mem BadSpace) out .reply .answer)
-    go sound valid out true l is = (
-      (λ e. absurd (omega (arith, ap numberOf e, ap numberOf is)), λ bad. absurd (bad sound)),
-      (
-        λ e. absurd (omega (arith, ap numberOf e, ap numberOf is)),
-        λ (sound, far). absurd (⊎-elim (λ f. omega arith) (λ f. omega (arith, ltb-true source (d .spaces) l)) far),
-      ),
-    )
-    go sound valid out false l is = (
-      (λ e. absurd (omega (arith, ap numberOf e)), λ bad. absurd (bad sound)),
-      (λ e. (sound, inr (ltb-false source (d .spaces) l)), λ any. refl),
-    )
+    not-26 : (a : Answer) → Sound mem → numberOf a ≢ 26 → (a ≡ BadWorld) ↔ (¬ Sound mem)
+    not-26 a sound other = not-given a BadWorld other (λ bad. bad sound)

@@ -18,7 +18,7 @@ use Rattle.steps.specs.declared.Taken.the-variants.{Id, Exhausted}
 use Rattle.steps.proofs.laws.Cases.{given, not-given}
 use Rattle.steps.proofs.laws.Entered.{space-by-cases}
 use Rattle.steps.proofs.laws.Exhausted.{exhausted-exactly}
-use Rattle.steps.proofs.laws.Told.{Inner, inner-0}
+use Rattle.steps.proofs.laws.Told.{Inner}
 use Rattle.table.specs.Slots.{idOf}
 use Rattle.table.specs.declared.CapabilityEntry.{CapabilityEntry}
 use Rattle.world.specs.Numbers.{numbersOf, nextOf, recycledOf}
@@ -49,14 +49,6 @@ module _ {A : Type 0} (answerOf : A → Answer) (refusing : Answer → A) (mem :
         s
         (λ sound far. (λ e. absurd (own .not-20 (ap numberOf (sym e ∙ says BadSpace))), λ (sound, (there, case)). absurd (omega arith)))
         (λ sound there. (λ e. (sound, (there, exactly sound there .0 e)), λ (again, (l, case)). exactly sound there .1 case))
-
-    -- A call with no refusal of its own.
-    pub told-0 :
-        answerOf (call (numbersOf mem)) ≡ Done
-        → (answerOf (onSpace refusing mem s call) ≡ Done) ↔ (Sound mem × (s < numbersOf mem .spaces))
-    told-0 done =
-        let (to, from) = told-on Done inner-0 (λ sound there. given {A = s < numbersOf mem .spaces} done there) in
-        (λ e. let (sound, (there, case)) = to e in (sound, there), λ (sound, there). from (sound, (there, there)))
 
 -- ---- the shapes of a reply
 

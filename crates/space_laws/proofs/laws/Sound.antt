@@ -1,30 +1,18 @@
 -- Every call keeps a sound memory sound, with its numbers, its length and every word past the regions (`Kept`), whatever it answers.
-use mathlib.Core.Bool.{Bool, true, false, not}
-use mathlib.Core.Path.{_≡_, refl}
 use mathlib.Core.List.{List}
 use Prim.Native.Nat.{ℕ, _^_, _<_}
-use borrow.Author.Tests.{ltb-true}
-use lib.Dec.{ltb}
-use Rattle.answers.specs.declared.Answer.the-variants.{BadSpace}
-use Rattle.base.specs.Choose.{when}
-use Rattle.space.specs.Words.{generationOf}
-use Rattle.steps.specs.Steps.{spaceOf, takenId, takeStep, copyStep, newEntry}
-use Rattle.steps.specs.declared.Taken.{Taken}
-use Rattle.steps.specs.declared.Taken.the-variants.{Id, Exhausted}
-use Rattle.steps.proofs.laws.Kept.{Kept, kept-refl, kept-trans}
+use Rattle.steps.specs.Steps.{spaceOf, newEntry}
+use Rattle.steps.proofs.laws.Cases.{unless-below}
+use Rattle.steps.proofs.laws.Kept.{kept-refl, kept-trans}
 use Rattle.steps.proofs.laws.SpaceSteps.{lookup-step-kept, next-step-kept, insert-step-kept, remove-step-kept, clear-step-kept, copy-step-kept}
 use Rattle.steps.proofs.laws.TakeStep.{take-step-kept}
-use Rattle.token.specs.Token.{made}
-use Rattle.token.specs.declared.capability.Made.{Made}
-use Rattle.token.specs.declared.capability.Made.the-variants.{Token, Refused}
 use Rattle.world.specs.Numbers.{numbersOf}
 use Rattle.world.specs.Sound.{Sound}
 use Rattle.world.specs.declared.Numbers.{Numbers}
-use Rattle.space_calls.specs.Calls.{insertCallOut, removeOut, incrementOut, clearOut, revokeAllOut, copyOut, allocOut, createMade, createTaken, createOut, revokeMade, revokeOut}
+use Rattle.space_calls.specs.Calls.{insertCallOut, removeOut, incrementOut, clearOut, revokeAllOut, copyOut, allocOut, createOut, revokeMade, revokeOut}
 use Rattle.space_reads.specs.Calls.{lookupOut, lookupEntryOut, checkRightsOut}
-use Rattle.steps.specs.Replies.{refuse}
-use Rattle.steps.specs.declared.Reply.{Reply}
 use Rattle.steps.proofs.laws.Called.{Keeps, on-world, on-space}
+use Rattle.space_laws.proofs.laws.Ways.{made-by-cases, create-by-cases}
 
 module _ (mem : List ℕ) (sound : Sound mem) where
   abbrev d : Numbers
@@ -72,14 +60,12 @@ module _ (mem : List ℕ) (sound : Sound mem) where
       kept-trans d mem _ _ emptied (next-step-kept d _ (emptied .sound) s valid))
 
   pub copy-keeps : (target source : ℕ) → Keeps mem (copyOut mem target source)
-  unfolding copyOut when
-  copy-keeps target source = on-space mem sound _ _ target (λ valid. go valid _ (ltb source (d .spaces)) refl)
-    where
-      go :
-          target < d .spaces → (r : Reply) (b : Bool) → ltb source (d .spaces) ≡ b
-          → Keeps mem (when (not b) (refuse mem BadSpace) (record { reply = r; memory = copyStep d target source mem }))
-      go valid r true l = copy-step-kept d mem sound target source valid (ltb-true source (d .spaces) l)
-      go valid r false l = kept-refl d mem sound
+  unfolding copyOut
+  copy-keeps target source =
+      on-space mem sound _ _ target
+      (λ valid.
+      unless-below (Keeps mem) _ _ source (d .spaces) (λ far. kept-refl d mem sound)
+      (λ there. copy-step-kept d mem sound target source valid there))
 
   -- ---- ids
 
@@ -88,28 +74,16 @@ module _ (mem : List ℕ) (sound : Sound mem) where
   alloc-keeps = on-world mem sound _ _ (take-step-kept d mem sound)
 
   pub create-keeps : (s rights object : ℕ) → rights < 2 ^ 32 → Keeps mem (createOut mem s rights object)
-  unfolding createOut
-  create-keeps s rights object fits = on-space mem sound _ _ s (λ valid. taken valid (takenId d mem))
-    where
-      after : List ℕ
-      after = takeStep d mem
-
-      took : Kept d mem after
-      took = take-step-kept d mem sound
-
-      tokened : s < d .spaces → (id : ℕ) (m : Made) → Keeps mem (createMade d s rights object id after m)
-      tokened valid id (Token t) =
-          kept-trans d mem after _ took (insert-step-kept d after (took .sound) s valid (newEntry (t .0) object rights) fits)
-      tokened valid id (Refused a) = took
-
-      taken : s < d .spaces → (t : Taken) → Keeps mem (createTaken d s rights object after t)
-      taken valid (Id id) = tokened valid id (made id (generationOf (spaceOf d s after)) 0 0)
-      taken valid Exhausted = took
+  create-keeps s rights object fits =
+      let as-it-is = kept-refl d mem sound in
+      let took = take-step-kept d mem sound in
+      create-by-cases mem s rights object (Keeps mem) (λ bad. as-it-is) (λ sound far. as-it-is) (λ sound valid none. as-it-is)
+      (λ sound valid id is. kept-trans d mem _ _ took (insert-step-kept d _ (took .sound) s valid _ fits))
 
   pub revoke-keeps : (s id : ℕ) → Keeps mem (revokeOut mem s id)
   unfolding revokeOut
-  revoke-keeps s id = on-space mem sound _ _ s (λ valid. go valid (made id (generationOf (spaceOf d s mem)) 0 0))
-    where
-      go : s < d .spaces → (m : Made) → Keeps mem (revokeMade d s mem m)
-      go valid (Token t) = remove-step-kept d mem sound s valid (t .0)
-      go valid (Refused a) = kept-refl d mem sound
+  revoke-keeps s id =
+      on-space mem sound _ _ s
+      (λ valid.
+      made-by-cases (λ m. Keeps mem (revokeMade d s mem m)) (spaceOf d s mem) id (λ over. kept-refl d mem sound)
+      (λ fits. remove-step-kept d mem sound s valid _))

@@ -3,10 +3,9 @@
 use mathlib.Core.List.{List}
 use mathlib.Core.Logic.{_↔_}
 use mathlib.Core.Path.{_≡_, refl}
-use Prim.Native.Nat.{ℕ, _-_, _%_, _^_, _≤_, _<_}
+use Prim.Native.Nat.{ℕ, _%_, _^_, _≤_, _<_}
 use native.Mathlib.Omega.{arith}
-use borrow.Author.Tests.{leb-true, leb-false, ltb-true, ltb-false}
-use lib.Dec.{leb, ltb}
+use lib.Dec.{leb}
 use Rattle.answers.specs.declared.Answer.{Answer}
 use Rattle.answers.specs.declared.Answer.the-variants.{Done, AlreadyExists, NotFound, IdExhausted, SpaceQuota, SpaceIds, BadSpace, BadField, BadWorld}
 use Rattle.base.specs.Choose.{when}
@@ -19,13 +18,13 @@ use Rattle.steps.specs.Steps.{spaceOf, takenId, takeStep, newEntry}
 use Rattle.steps.specs.declared.Reply.{Reply}
 use Rattle.steps.specs.declared.Taken.{Taken}
 use Rattle.steps.specs.declared.Taken.the-variants.{Id, Exhausted}
-use Rattle.steps.proofs.laws.Cases.{answerOf, given, not-given, pick-by-cases, when-by-cases, unless-below}
+use Rattle.steps.proofs.laws.Cases.{answerOf, given, not-given, when-from, unless-below}
 use Rattle.steps.proofs.laws.Entered.{world-by-cases}
 use Rattle.steps.proofs.laws.Exhausted.{exhausted-exactly}
 use Rattle.steps.proofs.laws.OnlyIds.{take-step}
 use Rattle.steps.proofs.laws.Ready.{space-of}
 use Rattle.steps.proofs.laws.TakeStep.{taken-free}
-use Rattle.steps.proofs.laws.Told.{Inner, inner, inner-0}
+use Rattle.steps.proofs.laws.Told.{Inner, told-0, inner, inner-0}
 use Rattle.table.specs.Copy.{nthOf}
 use Rattle.table.specs.Insert.{liveEntries}
 use Rattle.table.specs.Slots.{idOf}
@@ -33,17 +32,17 @@ use Rattle.table.specs.declared.CapabilityEntry.{CapabilityEntry}
 use Rattle.table.specs.declared.Got.{Got}
 use Rattle.table.specs.declared.Got.the-variants.{Entry, Nothing}
 use Rattle.token.specs.Token.{packed, made}
-use Rattle.token.specs.declared.capability.Made.{Made}
 use Rattle.world.specs.Numbers.{numbersOf, nextOf, recycledOf}
 use Rattle.world.specs.Sound.{Sound}
 use Rattle.world.specs.declared.Numbers.{Numbers}
-use Rattle.space_calls.specs.Calls.{insertCallOut, removeOut, incrementOut, clearOut, revokeAllOut, copyOut, takenReply, allocOut, createMade, createTaken, createOut, revokeMade, revokeOut}
+use Rattle.space_calls.specs.Calls.{insertCallOut, removeOut, incrementOut, clearOut, revokeAllOut, copyOut, takenReply, allocOut, createTaken, createOut, revokeMade, revokeOut}
 use Rattle.space_reads.specs.Calls.{factsOut, lookupOut, lookupEntryOut, checkRightsOut, getEntryOut, nthEntryOut}
 use Rattle.space_reads.specs.Replies.{foundReply, heldReply, noEntry, entryReply, nthReply}
 use Rattle.space_reads.specs.declared.EntryReply.{EntryReply}
 use Rattle.space_reads.specs.declared.FactsReply.{FactsReply}
 use Rattle.space_laws.proofs.laws.Finding.{HasToken, HasId, token-by-cases, id-by-cases, nth-by-cases}
-use Rattle.space_laws.proofs.laws.Shapes.{On, Taking, told-on, told-0, Finds, finds-it, finds-none, FindsBelow, finds-over, below-it, below-none, Inserts, inserts, Creates, creates-none, creates-of}
+use Rattle.space_laws.proofs.laws.Shapes.{On, Taking, told-on, Finds, finds-it, finds-none, FindsBelow, finds-over, below-it, below-none, Inserts, inserts, Creates, creates-none, creates-of}
+use Rattle.space_laws.proofs.laws.Ways.{ownToken, made-by-cases, created-by-cases}
 
 abbrev entryAnswer : EntryReply → Answer
 entryAnswer r = r .answer
@@ -69,12 +68,12 @@ module _ (mem : List ℕ) (s : ℕ) where
   -- The five that a space says of itself.
   pub facts-told-0 : (factsOut mem s .answer ≡ Done) ↔ (Sound mem × (s < numbersOf mem .spaces))
   unfolding factsOut
-  facts-told-0 = told-0 (λ (r : FactsReply). r .answer) _ mem _ s (λ a. refl) refl
+  facts-told-0 = told-0 (λ (r : FactsReply). r .answer) _ mem _ (λ a. refl) refl s
 
   pub check-rights-told-0 :
       (token required : ℕ) → (checkRightsOut mem s token required .reply .answer ≡ Done) ↔ (Sound mem × (s < numbersOf mem .spaces))
   unfolding checkRightsOut
-  check-rights-told-0 token required = told-0 answerOf _ mem _ s (λ a. refl) (always (lookedUp sp token .got) (lookedUp sp token .visits))
+  check-rights-told-0 token required = told-0 answerOf _ mem _ (λ a. refl) (always (lookedUp sp token .got) (lookedUp sp token .visits)) s
     where
       always : (got : Got) (visits : ℕ) → heldReply required got visits .answer ≡ Done
       always (Entry e) visits = refl
@@ -82,15 +81,15 @@ module _ (mem : List ℕ) (s : ℕ) where
 
   pub increment-told-0 : (incrementOut mem s .reply .answer ≡ Done) ↔ (Sound mem × (s < numbersOf mem .spaces))
   unfolding incrementOut
-  increment-told-0 = told-0 answerOf _ mem _ s (λ a. refl) refl
+  increment-told-0 = told-0 answerOf _ mem _ (λ a. refl) refl s
 
   pub clear-told-0 : (clearOut mem s .reply .answer ≡ Done) ↔ (Sound mem × (s < numbersOf mem .spaces))
   unfolding clearOut
-  clear-told-0 = told-0 answerOf _ mem _ s (λ a. refl) refl
+  clear-told-0 = told-0 answerOf _ mem _ (λ a. refl) refl s
 
   pub revoke-all-told-0 : (revokeAllOut mem s .reply .answer ≡ Done) ↔ (Sound mem × (s < numbersOf mem .spaces))
   unfolding revokeAllOut
-  revoke-all-told-0 = told-0 answerOf _ mem _ s (λ a. refl) refl
+  revoke-all-told-0 = told-0 answerOf _ mem _ (λ a. refl) refl s
 
   -- A copy is refused with 20 alone, for either number.
   pub copy-told-0 :
@@ -207,10 +206,8 @@ module _ (mem : List ℕ) (s : ℕ) where
         → FindsBelow id (HasId sp id)
         (when (leb (2 ^ 48) id) (noEntry BadField 0) (entryReply (gotEntry sp id .got) (gotEntry sp id .visits)) .answer)
     got-by-id sound there =
-        when-by-cases (λ (r : EntryReply). FindsBelow id (HasId sp id) (r .answer)) _ _ (leb (2 ^ 48) id)
-        (λ over. finds-over (leb-true (2 ^ 48) id over))
-        (λ under.
-        let fits = leb-false (2 ^ 48) id under in
+        when-from (λ (r : EntryReply). FindsBelow id (HasId sp id) (r .answer)) _ _ (2 ^ 48) id finds-over
+        (λ fits.
         id-by-cases (d .most) sp (space-is sound there) id
         (λ g. FindsBelow id (HasId sp id) (entryReply g (gotEntry sp id .visits) .answer))
         (λ has x. below-it fits has) (below-none fits))
@@ -227,20 +224,15 @@ module _ (mem : List ℕ) (s : ℕ) where
     unfolding getEntryOut
     get-entry-told-0 = told-on entryAnswer _ mem _ s (λ a. refl) Done inner-0 (λ sound there. got-by-id sound there .found)
 
-    -- The token that the space would have made of the id.
-    abbrev ownToken : ℕ
-    ownToken = packed id (generationOf sp) 0 0
-
     revokes :
         Sound mem → s < d .spaces
-        → FindsBelow id (HasToken sp ownToken) (revokeMade d s mem (made id (generationOf sp) 0 0) .reply .answer)
+        → FindsBelow id (HasToken sp (ownToken sp id)) (revokeMade d s mem (made id (generationOf sp) 0 0) .reply .answer)
     revokes sound there =
-        pick-by-cases (λ (m : Made). FindsBelow id (HasToken sp ownToken) (revokeMade d s mem m .reply .answer)) _ _ (ltb (2 ^ 48 - 1) id)
-        (λ over. finds-over (omega (arith, ltb-true (2 ^ 48 - 1) id over)))
-        (λ under.
-        let fits : id < 2 ^ 48 = omega (arith, ltb-false (2 ^ 48 - 1) id under) in
-        token-by-cases (d .most) sp (space-is sound there) ownToken
-        (λ g. FindsBelow id (HasToken sp ownToken) (foundReply (λ e. 0) g (lookedUp sp ownToken .visits) .answer))
+        let token : ℕ = ownToken sp id in
+        made-by-cases (λ m. FindsBelow id (HasToken sp token) (revokeMade d s mem m .reply .answer)) sp id finds-over
+        (λ fits.
+        token-by-cases (d .most) sp (space-is sound there) token
+        (λ g. FindsBelow id (HasToken sp token) (foundReply (λ e. 0) g (lookedUp sp token .visits) .answer))
         (λ has x. below-it fits has) (below-none fits))
 
     pub revoke-told-21 : (revokeOut mem s id .reply .answer ≡ BadField) ↔ On mem s (2 ^ 48 ≤ id)
@@ -264,32 +256,13 @@ module _ (mem : List ℕ) (s : ℕ) where
   module _ (rights object : ℕ) where
     creates :
         Sound mem → s < d .spaces → Creates mem sp (createTaken d s rights object (takeStep d mem) (takenId d mem) .reply .answer)
-    creates sound there = go (takenId d mem) refl
-      where
-        after : List ℕ
-        after = takeStep d mem
-
-        -- Taking the id leaves the space as it was.
-        same : spaceOf d s after ≡ sp
-        same = take-step d mem sound .same-spaces s there
-
-        tokened :
-            (id : ℕ) → takenId d mem ≡ Id id → id < 2 ^ 48 → (g : ℕ) → g < 2 ^ 8
-            → Creates mem sp (createMade d s rights object id after (made id g 0 0) .reply .answer)
-        tokened id is fits g small =
-            pick-by-cases (λ (m : Made). Creates mem sp (createMade d s rights object id after m .reply .answer)) _ _
-            (ltb (2 ^ 48 - 1) id)
-            (λ over. absurd (omega (arith, ltb-true (2 ^ 48 - 1) id over)))
-            (λ under.
-            let e : CapabilityEntry = newEntry (packed id g 0 0) object rights in
-            let own : idOf e ≡ id = omega arith in
-            rw same (creates-of mem sp id is _ (rw own at (inserts (d .most) sp (space-is sound there) e))))
-
-        go : (t : Taken) → takenId d mem ≡ t → Creates mem sp (createTaken d s rights object after t .reply .answer)
-        go (Id id) is =
-            tokened id is (taken-free d mem sound id is .fits) (generationOf (spaceOf d s after))
-            (rw same (space-is sound there .sound .coded))
-        go Exhausted is = creates-none mem sp is
+    creates sound there =
+        created-by-cases mem s rights object (λ out. Creates mem sp (answerOf out)) sound (creates-none mem sp)
+        (λ id is.
+        let same : spaceOf d s (takeStep d mem) ≡ sp = take-step d mem sound .same-spaces s there in
+        let e : CapabilityEntry = newEntry (ownToken sp id) object rights in
+        let own : idOf e ≡ id = omega (arith, taken-free d mem sound id is .fits, space-is sound there .sound .coded) in
+        rw same (creates-of mem sp id is _ (rw own at (inserts (d .most) sp (space-is sound there) e))))
 
     pub create-told-12 :
         (createOut mem s rights object .reply .answer ≡ SpaceIds) ↔ On mem s ((recycledOf mem ≤ 0) × (2 ^ 48 ≤ nextOf mem))

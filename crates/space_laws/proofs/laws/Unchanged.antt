@@ -1,28 +1,22 @@
 -- A refusal changes nothing: any answer but 0 leaves the memory as it was. Two exceptions: a lookup that found nothing (8) is counted all
 -- the same, and an id that a space's create took is lost where its entry is refused (7, 11).
-use mathlib.Core.Bool.{Bool, true, false, not}
 use mathlib.Core.List.{List}
 use mathlib.Core.Logic.{_≢_}
 use mathlib.Core.Path.{_≡_, refl, sym, ap, _∙_}
-use Prim.Native.Nat.{ℕ, _-_, _^_, _<_}
+use Prim.Native.Nat.{ℕ, _<_}
 use native.Mathlib.Omega.{arith}
-use borrow.Author.Tests.{le-ltb}
-use lib.Dec.{ltb}
 use Rattle.answers.specs.Number.{numberOf}
 use Rattle.answers.specs.declared.Answer.{Answer}
-use Rattle.answers.specs.declared.Answer.the-variants.{Done, SpaceIds, BadSpace, BadField}
-use Rattle.base.specs.Choose.{pick, when}
+use Rattle.answers.specs.declared.Answer.the-variants.{Done, SpaceIds}
 use Rattle.base.specs.Part.{onPart-same}
 use Rattle.space.specs.Change.{InsertOut, insertOut, removedFound, removedToken}
 use Rattle.space.specs.Lookup.{exactly, lookedUp}
-use Rattle.space.specs.Words.{generationOf, slotWords}
+use Rattle.space.specs.Words.{slotWords}
 use Rattle.space.proofs.laws.Insert.{insert-by-cases, zero-is-done}
 use Rattle.steps.specs.Enter.{onSpace}
-use Rattle.steps.specs.Steps.{spaceOf, isEntry, insertStep, removeStep, takenId, takeStep, newEntry}
-use Rattle.steps.specs.declared.Taken.{Taken}
-use Rattle.steps.specs.declared.Taken.the-variants.{Id, Exhausted}
+use Rattle.steps.specs.Steps.{spaceOf, isEntry, insertStep, removeStep, takeStep, newEntry}
 use Rattle.steps.proofs.ChangingEntries.{refused-insert, remove-absent}
-use Rattle.steps.proofs.laws.TakeStep.{taken-free}
+use Rattle.steps.proofs.laws.Cases.{either}
 use Rattle.steps.proofs.laws.Taking.{take-by-cases, none-taken}
 use Rattle.table.specs.Walk.{gotAt}
 use Rattle.table.specs.declared.CapabilityEntry.{CapabilityEntry}
@@ -30,21 +24,24 @@ use Rattle.table.specs.declared.Found.{Found}
 use Rattle.table.specs.declared.Found.the-variants.{At, Absent}
 use Rattle.table.specs.declared.Got.{Got}
 use Rattle.table.specs.declared.Got.the-variants.{Entry, Nothing}
-use Rattle.token.specs.Token.{packed, made}
-use Rattle.token.specs.declared.capability.Made.{Made}
-use Rattle.token.specs.declared.capability.Made.the-variants.{Token, Refused}
 use Rattle.world.specs.Numbers.{numbersOf}
 use Rattle.world.specs.Regions.{space, startOf, sizeOf}
 use Rattle.world.specs.Sound.{Sound}
 use Rattle.world.specs.declared.Numbers.{Numbers}
-use Rattle.space_calls.specs.Calls.{insertCallOut, removeOut, incrementOut, clearOut, revokeAllOut, copyOut, takenReply, allocOut, createMade, createTaken, createOut, revokeMade, revokeOut}
+use Rattle.space_calls.specs.Calls.{insertCallOut, removeOut, incrementOut, clearOut, revokeAllOut, copyOut, takenReply, allocOut, createOut, revokeMade, revokeOut}
 use Rattle.space_reads.specs.Calls.{lookupOut, lookupEntryOut, checkRightsOut}
 use Rattle.steps.specs.Replies.{Left, refuse}
 use Rattle.space_reads.specs.Replies.{foundReply}
 use Rattle.steps.specs.declared.Reply.{Reply}
-use Rattle.steps.proofs.laws.Entered.{world-by-cases, space-by-cases, space-called}
+use Rattle.steps.proofs.laws.Entered.{world-by-cases, space-by-cases}
+use Rattle.space_laws.proofs.laws.Ways.{ownToken, made-by-cases, create-by-cases}
 
 -- ---- the steps
+
+not-12 : (sp : List ℕ) (e : CapabilityEntry) → insertOut sp e .answer ≢ SpaceIds
+not-12 sp e =
+    insert-by-cases sp e (λ (o : InsertOut). o .answer ≢ SpaceIds)
+    (λ over is. omega (arith, ap numberOf is)) (λ i under there is. omega (arith, ap numberOf is)) (λ a is. omega (arith, ap numberOf is))
 
 module _ (d : Numbers) (s : ℕ) (mem : List ℕ) where
   abbrev sp : List ℕ
@@ -81,13 +78,13 @@ module _ (mem : List ℕ) where
   abbrev d : Numbers
   d = numbersOf mem
 
-  on-space :
-      (s : ℕ) (call : Numbers → Left Reply) → (call d .reply .answer ≢ Done → call d .memory ≡ mem)
-      → onSpace (refuse mem) mem s call .reply .answer ≢ Done → onSpace (refuse mem) mem s call .memory ≡ mem
+  -- A refusal leaves the memory as it was.
+  abbrev Leaves : Left Reply → Type 0
+  Leaves out = out .reply .answer ≢ Done → out .memory ≡ mem
+
+  on-space : (s : ℕ) (call : Numbers → Left Reply) → Leaves (call d) → Leaves (onSpace (refuse mem) mem s call)
   on-space s call made =
-      space-by-cases (λ (out : Left Reply). out .reply .answer ≢ Done → out .memory ≡ mem) (refuse mem) mem call (λ bad not-done. refl) s
-      (λ sound far not-done. refl)
-      (λ sound valid. made)
+      space-by-cases Leaves (refuse mem) mem call (λ bad not-done. refl) s (λ sound far not-done. refl) (λ sound valid. made)
 
   pub insert-unchanged :
       (s token object rights : ℕ) → insertCallOut mem s token object rights .reply .answer ≢ Done
@@ -113,27 +110,23 @@ module _ (mem : List ℕ) where
 
   pub copy-unchanged :
       (target source : ℕ) → copyOut mem target source .reply .answer ≢ Done → copyOut mem target source .memory ≡ mem
-  unfolding copyOut when
-  copy-unchanged target source = on-space target _ (go (ltb source (d .spaces)) _ refl)
-    where
-      go :
-          (b : Bool) (out : Left Reply) → out .reply .answer ≡ Done → when (not b) (refuse mem BadSpace) out .reply .answer ≢ Done
-          → when (not b) (refuse mem BadSpace) out .memory ≡ mem
-      go true out is not-done = absurd (not-done is)
-      go false out is not-done = refl
+  unfolding copyOut
+  copy-unchanged target source =
+      on-space target _ (either Leaves _ _ _ (λ not-done. refl) (λ not-done. absurd (not-done refl)))
 
   pub revoke-unchanged : (s id : ℕ) → revokeOut mem s id .reply .answer ≢ Done → revokeOut mem s id .memory ≡ mem
   unfolding revokeOut
-  revoke-unchanged s id = on-space s _ (go (made id (generationOf (spaceOf d s mem)) 0 0))
-    where
-      go : (m : Made) → revokeMade d s mem m .reply .answer ≢ Done → revokeMade d s mem m .memory ≡ mem
-      go (Token t) = missed-remove d s mem (λ e. 0) (t .0) (lookedUp (spaceOf d s mem) (t .0) .visits)
-      go (Refused a) = λ not-done. refl
+  revoke-unchanged s id =
+      let sp : List ℕ = spaceOf d s mem in
+      let token : ℕ = ownToken sp id in
+      on-space s _
+      (made-by-cases (λ m. Leaves (revokeMade d s mem m)) sp id (λ over not-done. refl)
+      (λ fits. missed-remove d s mem (λ e. 0) token (lookedUp sp token .visits)))
 
   pub alloc-unchanged : allocOut mem .reply .answer ≢ Done → allocOut mem .memory ≡ mem
   unfolding allocOut
   alloc-unchanged =
-      world-by-cases (λ (out : Left Reply). out .reply .answer ≢ Done → out .memory ≡ mem) (refuse mem) mem _ (λ bad not-done. refl)
+      world-by-cases Leaves (refuse mem) mem _ (λ bad not-done. refl)
       (λ sound.
       take-by-cases d mem (λ t after. takenReply t .answer ≢ Done → after ≡ mem)
       (λ some not-done. absurd (not-done refl)) (λ none more not-done. absurd (not-done refl)) (λ not-done. refl))
@@ -170,57 +163,15 @@ module _ (mem : List ℕ) where
   pub create-loses-the-id :
       Sound mem → (s rights object : ℕ) → s < numbersOf mem .spaces → createOut mem s rights object .reply .answer ≢ Done
       → createOut mem s rights object .memory ≡ takeStep (numbersOf mem) mem
-  unfolding createOut
-  create-loses-the-id sound s rights object valid not-done =
-      let called = space-called (refuse mem) mem (λ d. createTaken d s rights object (takeStep d mem) (takenId d mem)) sound s valid in
-      ap (λ (out : Left Reply). out .memory) called
-      ∙ taken (takenId d mem) (λ e. not-done (ap (λ (out : Left Reply). out .reply .answer) called ∙ e))
-    where
-      after : List ℕ
-      after = takeStep d mem
-
-      tokened :
-          (id : ℕ) (m : Made) → createMade d s rights object id after m .reply .answer ≢ Done
-          → createMade d s rights object id after m .memory ≡ after
-      tokened id (Token t) = insert-undone d s after (newEntry (t .0) object rights)
-      tokened id (Refused a) = λ not-done. refl
-
-      taken :
-          (t : Taken) → createTaken d s rights object after t .reply .answer ≢ Done
-          → createTaken d s rights object after t .memory ≡ after
-      taken (Id id) = tokened id (made id (generationOf (spaceOf d s after)) 0 0)
-      taken Exhausted = λ not-done. refl
+  create-loses-the-id sound s rights object valid =
+      create-by-cases mem s rights object (λ out. out .reply .answer ≢ Done → out .memory ≡ takeStep d mem) (λ bad. absurd (bad sound))
+      (λ sound far. absurd (omega arith)) (λ sound valid none not-done. sym (none-taken d mem none))
+      (λ sound valid id is. insert-undone d s _ _)
 
   -- Where none is left (12), nothing was taken.
   pub create-12-unchanged :
       (s rights object : ℕ) → createOut mem s rights object .reply .answer ≡ SpaceIds → createOut mem s rights object .memory ≡ mem
-  unfolding createOut
   create-12-unchanged s rights object =
-      space-by-cases (λ (out : Left Reply). out .reply .answer ≡ SpaceIds → out .memory ≡ mem) (refuse mem) mem _ (λ bad e. refl) s
-      (λ sound far e. refl)
-      (λ sound valid. taken sound (takenId d mem) refl)
-    where
-      after : List ℕ
-      after = takeStep d mem
-
-      not-12 : (e : CapabilityEntry) → insertOut (spaceOf d s after) e .answer ≢ SpaceIds
-      not-12 e =
-          insert-by-cases (spaceOf d s after) e (λ (o : InsertOut). o .answer ≢ SpaceIds)
-          (λ over is. omega (arith, ap numberOf is)) (λ i under there is. omega (arith, ap numberOf is))
-          (λ a is. omega (arith, ap numberOf is))
-
-      -- An id that was taken fits a token.
-      tokened :
-          (id generation : ℕ) → id < 2 ^ 48 → (b : Bool) → ltb (2 ^ 48 - 1) id ≡ b
-          → createMade d s rights object id after (pick b (Refused BadField) (Token (record { 0 = packed id generation 0 0 })))
-          .reply .answer ≡ SpaceIds → ⊥
-      tokened id generation fits true l e = let small = le-ltb (2 ^ 48 - 1) id (omega arith) in let z : _≡_ {A = ℕ} 0 1 = cc in omega arith
-      tokened id generation fits false l e = not-12 (newEntry (packed id generation 0 0) object rights) e
-
-      taken :
-          Sound mem → (t : Taken) → takenId d mem ≡ t → createTaken d s rights object after t .reply .answer ≡ SpaceIds
-          → createTaken d s rights object after t .memory ≡ mem
-      taken sound (Id id) is e =
-          absurd
-          (tokened id (generationOf (spaceOf d s after)) (taken-free d mem sound id is .fits) (ltb (2 ^ 48 - 1) id) refl e)
-      taken sound Exhausted is e = none-taken d mem is
+      create-by-cases mem s rights object (λ out. out .reply .answer ≡ SpaceIds → out .memory ≡ mem) (λ bad e. refl) (λ sound far e. refl)
+      (λ sound valid none e. refl)
+      (λ sound valid id is e. absurd (not-12 (spaceOf d s (takeStep d mem)) _ e))

@@ -1,24 +1,22 @@
 -- A refusal's value is 0: where the answer of a call of a space is not 0, a reply has the value 0, a reply with an entry no entry, and all
 -- that a space says of itself is zeros. What is added, the visits of a search that found nothing, is answered all the same.
-use mathlib.Core.Bool.{not}
 use mathlib.Core.List.{List}
 use mathlib.Core.Logic.{_≢_}
 use mathlib.Core.Path.{_≡_, refl}
-use Prim.Native.Nat.{ℕ, _^_}
-use lib.Dec.{leb, ltb}
+use Prim.Native.Nat.{ℕ}
 use Rattle.answers.specs.declared.Answer.{Answer}
 use Rattle.answers.specs.declared.Answer.the-variants.{Done, BadSpace, BadWorld}
 use Rattle.space.specs.Change.{InsertOut, insertOut}
 use Rattle.space.specs.Lookup.{lookedUp, gotEntry}
-use Rattle.space.specs.Words.{generationOf, tableOf, slotWords}
+use Rattle.space.specs.Words.{tableOf, slotWords}
 use Rattle.space.proofs.laws.Insert.{insert-by-cases}
 use Rattle.steps.specs.Enter.{onSpace}
 use Rattle.steps.specs.Replies.{Left, done, refuse}
-use Rattle.steps.specs.Steps.{spaceOf, newEntry, insertReply, takenId, takeStep}
+use Rattle.steps.specs.Steps.{spaceOf, takenId, newEntry, insertReply}
 use Rattle.steps.specs.declared.Reply.{Reply}
 use Rattle.steps.specs.declared.Taken.{Taken}
 use Rattle.steps.specs.declared.Taken.the-variants.{Id, Exhausted}
-use Rattle.steps.proofs.laws.Cases.{when-by-cases}
+use Rattle.steps.proofs.laws.Cases.{either, NoValue}
 use Rattle.steps.proofs.laws.Entered.{world-by-cases, space-by-cases}
 use Rattle.table.specs.Copy.{nthOf}
 use Rattle.table.specs.Insert.{liveEntries}
@@ -27,21 +25,16 @@ use Rattle.table.specs.declared.Got.{Got}
 use Rattle.table.specs.declared.Got.the-variants.{Entry, Nothing}
 use Rattle.table.specs.declared.Nth.{Nth}
 use Rattle.table.specs.declared.Nth.the-variants as nth
-use Rattle.token.specs.Token.{made}
-use Rattle.token.specs.declared.capability.Made.{Made}
-use Rattle.token.specs.declared.capability.Made.the-variants.{Token, Refused}
 use Rattle.world.specs.Numbers.{numbersOf}
 use Rattle.world.specs.declared.Numbers.{Numbers}
-use Rattle.space_calls.specs.Calls.{insertCallOut, removeOut, incrementOut, clearOut, revokeAllOut, copyOut, takenReply, allocOut, createMade, createTaken, createOut, revokeMade, revokeOut}
+use Rattle.space_calls.specs.Calls.{insertCallOut, removeOut, incrementOut, clearOut, revokeAllOut, copyOut, takenReply, allocOut, createOut, revokeMade, revokeOut}
 use Rattle.space_reads.specs.Calls.{factsOut, lookupOut, lookupEntryOut, checkRightsOut, getEntryOut, nthEntryOut}
 use Rattle.space_reads.specs.Replies.{foundReply, heldReply, noEntry, entryReply, nthReply, noFacts}
 use Rattle.space_reads.specs.declared.EntryReply.{EntryReply}
 use Rattle.space_reads.specs.declared.FactsReply.{FactsReply}
+use Rattle.space_laws.proofs.laws.Ways.{ownToken, made-by-cases, create-by-cases}
 
--- ---- the three kinds of reply
-
-abbrev pub NoValue : Reply → Type 0
-NoValue r = r .answer ≢ Done → r .value ≡ 0
+-- ---- a reply with an entry, and what a space says of itself
 
 abbrev pub NoEntry : EntryReply → Type 0
 NoEntry r = r .answer ≢ Done → r ≡ noEntry (r .answer) (r .visits)
@@ -124,7 +117,7 @@ module _ (mem : List ℕ) (s : ℕ) where
   unfolding getEntryOut
   get-entry-value id =
       refused-or-made NoEntry _ mem _ s (λ a not-0. refl)
-      (when-by-cases NoEntry _ _ (leb (2 ^ 48) id) (λ over not-0. refl) (λ fits. entry-none (gotEntry sp id .got) (gotEntry sp id .visits)))
+      (either NoEntry _ _ _ (λ not-0. refl) (entry-none (gotEntry sp id .got) (gotEntry sp id .visits)))
 
   pub nth-entry-value : (n : ℕ) → NoEntry (nthEntryOut mem s n)
   unfolding nthEntryOut
@@ -158,30 +151,20 @@ module _ (mem : List ℕ) (s : ℕ) where
   unfolding copyOut
   copy-value source =
       refused-or-made Valueless _ mem _ s (λ a not-0. refl)
-      (when-by-cases Valueless _ _ (not (ltb source (d .spaces))) (λ far not-0. refl) (λ there not-0. absurd (not-0 refl)))
+      (either Valueless _ _ _ (λ not-0. refl) (λ not-0. absurd (not-0 refl)))
 
   pub create-value : (rights object : ℕ) → NoValue (createOut mem s rights object .reply)
-  unfolding createOut
-  create-value rights object = refused-or-made Valueless _ mem _ s (λ a not-0. refl) (taken (takenId d mem))
-    where
-      after : List ℕ
-      after = takeStep d mem
-
-      tokened : (id : ℕ) (m : Made) → Valueless (createMade d s rights object id after m)
-      tokened id (Token t) = insert-none id (spaceOf d s after) (newEntry (t .0) object rights)
-      tokened id (Refused a) = λ not-0. refl
-
-      taken : (t : Taken) → Valueless (createTaken d s rights object after t)
-      taken (Id id) = tokened id (made id (generationOf (spaceOf d s after)) 0 0)
-      taken Exhausted = λ not-0. refl
+  create-value rights object =
+      create-by-cases mem s rights object Valueless (λ bad not-0. refl) (λ sound far not-0. refl) (λ sound there none not-0. refl)
+      (λ sound there id is. insert-none id _ _)
 
   pub revoke-value : (id : ℕ) → NoValue (revokeOut mem s id .reply)
   unfolding revokeOut
-  revoke-value id = refused-or-made Valueless _ mem _ s (λ a not-0. refl) (go (made id (generationOf sp) 0 0))
-    where
-      go : (m : Made) → Valueless (revokeMade d s mem m)
-      go (Token t) = found-none (λ e. 0) (lookedUp sp (t .0) .got) (lookedUp sp (t .0) .visits)
-      go (Refused a) = λ not-0. refl
+  revoke-value id =
+      let l = lookedUp sp (ownToken sp id) in
+      refused-or-made Valueless _ mem _ s (λ a not-0. refl)
+      (made-by-cases (λ m. Valueless (revokeMade d s mem m)) sp id (λ over not-0. refl)
+      (λ fits. found-none (λ e. 0) (l .got) (l .visits)))
 
 pub alloc-value : (mem : List ℕ) → NoValue (allocOut mem .reply)
 unfolding allocOut
