@@ -1,6 +1,5 @@
 -- The visits that a call answers are those of its search in the space: from the definitions of the calls, on a sound memory and a space
 -- that there is, whatever was found.
-use mathlib.Core.Bool.{Bool, true, false}
 use mathlib.Core.List.{List}
 use mathlib.Core.Path.{_≡_, refl, ap, _∙_}
 use Prim.Native.Nat.{ℕ, _^_, _<_}
@@ -8,16 +7,18 @@ use borrow.Author.Tests.{lt-leb, le-ltb}
 use lib.ListN.{length}
 use Rattle.answers.specs.declared.Answer.{Answer}
 use Rattle.answers.specs.declared.Answer.the-variants.{BadField}
-use Rattle.base.specs.Choose.{when, when-no}
+use Rattle.base.specs.Choose.{when-no}
 use Rattle.manager_calls.specs.Calls as manager
 use Rattle.revocation_calls.specs.Calls as revocation
 use Rattle.revocation_calls.specs.Revoking.{revokingHeld}
+use Rattle.revocation_laws.proofs.laws.Ways.{revoking-held-by-cases}
 use Rattle.space.specs.Lookup.{lookedUp, gotEntry}
 use Rattle.space.specs.declared.LookedUp.{LookedUp}
 use Rattle.space_calls.specs.Calls as space
 use Rattle.space_reads.specs.Calls as spaceReads
 use Rattle.space_reads.specs.Replies.{foundReply, heldReply, noEntry, entryReply}
 use Rattle.space_reads.specs.declared.EntryReply.{EntryReply}
+use Rattle.steps.proofs.laws.Cases.{either}
 use Rattle.steps.proofs.laws.Entered.{space-called}
 use Rattle.steps.specs.Enter.{onSpace}
 use Rattle.steps.specs.Replies.{Left}
@@ -47,17 +48,14 @@ entry-visits : (got : Got) (visits : ℕ) → entryReply got visits .visits ≡ 
 entry-visits (Entry e) visits = refl
 entry-visits Nothing visits = refl
 
-either-visits :
-    (visits : ℕ) (b : Bool) (x y : Left Reply) → x .reply .count ≡ visits → y .reply .count ≡ visits → when b x y .reply .count ≡ visits
-unfolding when
-either-visits visits true x y first second = first
-either-visits visits false x y first second = second
+abbrev Visits : ℕ → Left Reply → Type 0
+Visits visits out = out .reply .count ≡ visits
 
 revoking-visits :
     (d : Numbers) (token time : ℕ) (listed mem : List ℕ) (got : Got) (visits : ℕ)
-    → revokingHeld d token time listed mem got visits .reply .count ≡ visits
-revoking-visits d token time listed mem (Entry e) visits = either-visits visits _ _ _ refl refl
-revoking-visits d token time listed mem Nothing visits = refl
+    → Visits visits (revokingHeld d token time listed mem got visits)
+revoking-visits d token time listed mem got visits =
+    revoking-held-by-cases d token time listed mem (Visits visits) got visits (λ none. refl) (λ e is lacks. refl) (λ e is has. refl)
 
 -- ---- the calls
 
@@ -120,7 +118,7 @@ module _ (mem : List ℕ) (sound : Sound mem) (s : ℕ) (valid : s < numbersOf m
       (
         in-check token required s valid,
         ap counts (entered _ _)
-            ∙ either-visits (found token .visits) _ _ _ refl (either-visits (found token .visits) _ _ _ refl refl),
+            ∙ either (Visits (found token .visits)) _ _ _ refl (either (Visits (found token .visits)) _ _ _ refl refl),
       ),
     );
     of-revoke-held = λ token time listed few. (

@@ -1,10 +1,9 @@
 -- What holds of the memory that a revocation given 0 leaves holds of what each call that revokes leaves, given 0: `revoke`,
 -- `revoke_capability`, a held revoke.
-use mathlib.Core.Bool.{not}
 use mathlib.Core.List.{List}
 use mathlib.Core.Logic.{_≢_}
 use mathlib.Core.Path.{_≡_, refl, ap}
-use Prim.Native.Nat.{ℕ, _^_, _≤_, _<_}
+use Prim.Native.Nat.{ℕ, _≤_, _<_}
 use native.Mathlib.Omega.{arith}
 use Rattle.answers.specs.Number.{numberOf}
 use Rattle.answers.specs.declared.Answer.{Answer}
@@ -12,21 +11,16 @@ use Rattle.answers.specs.declared.Answer.the-variants.{Done}
 use Rattle.registry.specs.Words.{revoked}
 use Rattle.revocation_steps.specs.Revocation.{freeQueues}
 use Rattle.revocation_steps.proofs.laws.CascadeSteps.{revokeStep, cascadeQueues}
-use Rattle.space.specs.Lookup.{lookedUp}
 use Rattle.steps.specs.Replies.{Left}
-use Rattle.steps.specs.Steps.{spaceOf, lookupStep, placeIn}
+use Rattle.steps.specs.Steps.{lookupStep, placeIn}
 use Rattle.steps.specs.declared.Reply.{Reply}
-use Rattle.steps.proofs.laws.Cases.{when-by-cases}
-use Rattle.table.specs.declared.Got.{Got}
-use Rattle.table.specs.declared.Got.the-variants.{Entry, Nothing}
-use Rattle.token.specs.Rights.{holds}
 use Rattle.token.specs.Token.{idOf}
 use Rattle.world.specs.Numbers.{numbersOf, registeredOf}
 use Rattle.world.specs.Sound.{states, Sound}
 use Rattle.world.specs.declared.Numbers.{Numbers}
 use Rattle.revocation_calls.specs.Calls.{revokeOut, revokeCapabilityOut, revokeHeldOut}
 use Rattle.cascade.specs.Cascade.{revoking}
-use Rattle.revocation_calls.specs.Revoking.{loggingToken, revokingToken, revokingHeld}
+use Rattle.revocation_calls.specs.Revoking.{loggingToken, revokingToken}
 use Rattle.revocation_calls.proofs.laws.RevokingWays.{pairsAfter, revoking-by-cases, revoking-token-by-cases}
 use Rattle.revocation_laws.proofs.laws.Counted.{same-registered, same-registry}
 use Rattle.revocation_laws.proofs.laws.Ways.{revoke-by-cases, revoke-capability-by-cases, held-by-cases}
@@ -93,15 +87,9 @@ module _ (mem : List ℕ) (token time : ℕ) (listed : List ℕ) (P : List ℕ �
         held-by-cases mem time listed (Given P) (λ bad. not-done _ (λ e. omega arith)) s token
         (λ sound far. not-done _ (λ e. omega arith))
         (λ sound there many. not-done _ (λ e. omega arith))
-        (λ sound there few. go sound there (lookedUp (spaceOf d s mem) token .got))
-      where
-        go :
-            Sound mem → s < d .spaces → (g : Got)
-            → Given P (revokingHeld d token time listed looked g (lookedUp (spaceOf d s mem) token .visits))
-        go sound there Nothing = not-done _ (λ e. omega arith)
-        go sound there (Entry e) =
-            when-by-cases (Given P) _ _ (not (holds (e .rights .0) (2 ^ 4))) (λ without. not-done _ (λ e. omega arith))
-            (λ with′. made sound there)
+        (λ sound there few none. not-done _ (λ e. omega arith))
+        (λ sound there few e is lacks. not-done _ (λ e. omega arith))
+        (λ sound there few e is has. made sound there)
 
     -- which has the id at the same place.
     same-place : Sound mem → s < d .spaces → placeIn d looked (idOf token) ≡ place

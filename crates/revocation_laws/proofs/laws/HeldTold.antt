@@ -1,21 +1,19 @@
 -- When each answer of a held revoke and of a batch is given, on a sound memory: 21 exactly for too long a list; then 8 exactly where the
 -- space has not the token and 2 exactly where it has it without REVOKE, else as `revoke_capability` answers; and a batch gives 0.
-use mathlib.Core.Bool.{true, false, not, true≢false}
+use mathlib.Core.Bool.{true, false, true≢false}
 use mathlib.Core.List.{List}
 use mathlib.Core.Logic.{_↔_, _≢_, _⊎_, inl, inr, ⊎-elim}
 use mathlib.Core.Path.{_≡_, refl, sym, ap, _∙_}
 use Prim.Native.Nat.{ℕ, _^_, _≤_, _<_}
 use native.Mathlib.Omega.{arith}
-use borrow.Author.Tests.{not-true, not-false}
 use lib.ListN.{length}
 use Rattle.answers.specs.Number.{numberOf}
 use Rattle.answers.specs.declared.Answer.{Answer}
 use Rattle.answers.specs.declared.Answer.the-variants.{Done, InsufficientRights, NotFound, BadField, LogFull, PidTableFull}
 use Rattle.space.specs.Lookup.{lookedUp}
-use Rattle.steps.specs.Replies.{Left}
 use Rattle.steps.specs.Steps.{spaceOf, lookupStep}
 use Rattle.steps.specs.declared.Reply.{Reply}
-use Rattle.steps.proofs.laws.Cases.{when-by-cases, Exactly, given, not-given}
+use Rattle.steps.proofs.laws.Cases.{Exactly, given, not-given}
 use Rattle.table.specs.declared.CapabilityEntry.{CapabilityEntry}
 use Rattle.table.specs.declared.Got.{Got}
 use Rattle.table.specs.declared.Got.the-variants.{Entry, Nothing}
@@ -24,7 +22,7 @@ use Rattle.world.specs.Numbers.{numbersOf}
 use Rattle.world.specs.Sound.{Sound}
 use Rattle.world.specs.declared.Numbers.{Numbers}
 use Rattle.revocation_calls.specs.Calls.{revokeCapabilityOut, revokeHeldOut, revokeBatchOut}
-use Rattle.revocation_calls.specs.Revoking.{revokingToken, revokingHeld}
+use Rattle.revocation_calls.specs.Revoking.{revokingToken}
 use Rattle.revocation_laws.proofs.laws.Counted.{counted-answers}
 use Rattle.revocation_laws.proofs.laws.RevokeTold.{not-own}
 use Rattle.revocation_laws.proofs.laws.Ways.{Own, own-not, revoking-token-own, each-done, held-by-cases, batch-by-cases, revoke-capability-called, held-with-revoke}
@@ -49,9 +47,6 @@ module _ (mem : List ℕ) (sound : Sound mem) (s : ℕ) (there : s < numbersOf m
   abbrev after : List ℕ
   after = lookupStep d s token mem
 
-  abbrev outFor : Got → Left Reply
-  outFor g = revokingHeld d token time listed after g (lookedUp (spaceOf d s mem) token .visits)
-
   abbrev byToken : Answer
   byToken = revokingToken d token time listed after .reply .answer
 
@@ -62,14 +57,8 @@ module _ (mem : List ℕ) (sound : Sound mem) (s : ℕ) (there : s < numbersOf m
       by-holding : (revokeHeldOut mem s token time listed .reply .answer ≡ a) ↔ A
       by-holding =
           held-by-cases mem time listed (Exactly a A) (λ bad. absurd (bad sound)) s token (λ sound far. absurd (omega arith))
-          (λ sound there. many)
-          (λ sound there few. go few got refl)
-        where
-          go : length listed ≤ 32 → (g : Got) → got ≡ g → (outFor g .reply .answer ≡ a) ↔ A
-          go few Nothing is = absent few is
-          go few (Entry e) is =
-              when-by-cases (Exactly a A) _ _ (not (holds (e .rights .0) (2 ^ 4))) (λ h. without few (e, (is, not-true _ h)))
-              (λ h. with′ few (e, (is, not-false _ h)))
+          (λ sound there. many) (λ sound there few none. absent few none)
+          (λ sound there few e is lacks. without few (e, (is, lacks))) (λ sound there few e is has. with′ few (e, (is, has)))
 
   -- With REVOKE it is given none of 21, 8 and 2.
   not-by-token : (a : Answer) {A : Type 0} → 0 < numberOf a → numberOf a < 24 → ¬ A → (byToken ≡ a) ↔ A

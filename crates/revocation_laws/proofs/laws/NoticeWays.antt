@@ -4,8 +4,8 @@ use mathlib.Core.List.{List}
 use mathlib.Core.Logic.{_⊎_, inl, inr, ⊎-elim}
 use mathlib.Core.Path.{_≡_, refl, sym}
 use Prim.Native.Nat.{ℕ, _^_, _≤_, _<_}
-use borrow.Author.Tests.{ltb-true, ltb-false, leb-true, leb-false, not-true}
-use lib.Dec.{leb, ltb}
+use borrow.Author.Tests.{ltb-true, ltb-false, not-true}
+use lib.Dec.{ltb}
 use lib.ListN.{length}
 use Rattle.answers.specs.declared.Answer.the-variants.{BadField, PidTableFull, BadWorld}
 use Rattle.base.specs.Choose.{both, both-left, both-right, when}
@@ -13,7 +13,7 @@ use Rattle.revocation_steps.specs.Revocation.{queueFor, freeQueue, notifyStep}
 use Rattle.steps.specs.Enter.{onWorld}
 use Rattle.steps.specs.Replies.{Left, WithArea, done, refusal, refuse}
 use Rattle.steps.specs.declared.Reply.{Reply}
-use Rattle.steps.proofs.laws.Cases.{when-by-cases}
+use Rattle.steps.proofs.laws.Cases.{when-by-cases, when-below, when-from}
 use Rattle.steps.proofs.laws.Entered.{world-by-cases}
 use Rattle.world.specs.Numbers.{numbersOf}
 use Rattle.world.specs.Sound.{Sound}
@@ -31,10 +31,10 @@ abbrev pub HasPlace : List ℕ → ℕ → Type 0
 HasPlace mem pid =
     (queueFor (numbersOf mem) mem pid < numbersOf mem .queues) ⊎ (freeQueue (numbersOf mem) mem < numbersOf mem .queues)
 
-either : (a b : Bool) → both (not a) (not b) ≡ false → (a ≡ true) ⊎ (b ≡ true)
-either true b e = inl refl
-either false true e = inr refl
-either false false e = inl (sym e)
+one-holds : (a b : Bool) → both (not a) (not b) ≡ false → (a ≡ true) ⊎ (b ≡ true)
+one-holds true b e = inl refl
+one-holds false true e = inr refl
+one-holds false false e = inl (sym e)
 
 module _ (mem : List ℕ) (pid id reason time : ℕ) (P : Left Reply → Type 0) where
   abbrev d : Numbers
@@ -54,19 +54,17 @@ module _ (mem : List ℕ) (pid id reason time : ℕ) (P : Left Reply → Type 0)
       let n : ℕ = d .queues in
       world-by-cases P (refuse mem) mem _ bad
       (λ sound.
-      when-by-cases P _ _ (leb (2 ^ 48) id) (λ e. over sound (leb-true _ _ e))
-      (λ e.
-      let fits : id < 2 ^ 48 = leb-false (2 ^ 48) id e in
-      when-by-cases P _ _ (ltb 3 reason) (λ e. uncoded sound fits (ltb-true _ _ e))
-      (λ e.
-      let coded : reason ≤ 3 = ltb-false 3 reason e in
+      when-from P _ _ (2 ^ 48) id (over sound)
+      (λ fits.
+      when-below P _ _ 3 reason (uncoded sound fits)
+      (λ coded.
       when-by-cases P _ _ (both (not (ltb q n)) (not (ltb f n)))
       (λ e.
       full sound fits coded
       (ltb-false q n (not-true _ (both-left _ _ e)), ltb-false f n (not-true _ (both-right (not (ltb q n)) _ e))))
       (λ e.
       goes sound fits coded
-      (⊎-elim (λ h. inl (ltb-true q n h)) (λ h. inr (ltb-true f n h)) (either (ltb q n) (ltb f n) e))))))
+      (⊎-elim (λ h. inl (ltb-true q n h)) (λ h. inr (ltb-true f n h)) (one-holds (ltb q n) (ltb f n) e))))))
 
 -- ---- the notices of a pid
 
@@ -96,8 +94,7 @@ module _ (mem : List ℕ) (pid : ℕ) (area : List ℕ) where
       → P (peekOut mem pid area)
   unfolding peekOut
   peek-by-cases P bad short goes =
-      world-by-cases P _ mem _ bad
-      (λ sound. when-by-cases P _ _ (ltb (length area) words) (λ e. short sound (ltb-true _ _ e)) (λ e. goes sound (ltb-false _ _ e)))
+      world-by-cases P _ mem _ bad (λ sound. when-below P _ _ (length area) words (short sound) (goes sound))
 
   pub drain-by-cases :
       (P : Left WithArea → Type 0)
@@ -111,8 +108,7 @@ module _ (mem : List ℕ) (pid : ℕ) (area : List ℕ) where
       → P (drainOut mem pid area)
   unfolding drainOut
   drain-by-cases P bad short goes =
-      world-by-cases P _ mem _ bad
-      (λ sound. when-by-cases P _ _ (ltb (length area) words) (λ e. short sound (ltb-true _ _ e)) (λ e. goes sound (ltb-false _ _ e)))
+      world-by-cases P _ mem _ bad (λ sound. when-below P _ _ (length area) words (short sound) (goes sound))
 
   pub drain-peeks : drainOut mem pid area .reply ≡ peekOut mem pid area
   unfolding drainOut peekOut onWorld

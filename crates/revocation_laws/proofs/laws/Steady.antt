@@ -1,30 +1,25 @@
 -- What each step keeps, each call keeps. A relation between a memory and a later one that holds of the steps of revocation, and from step
 -- to step, holds of every call that revokes and of every call for notifications: of the calls it need not be proved one by one. Sound.antt
 -- takes it for soundness, `history` for the ids and for the moves of a space.
-use mathlib.Core.Bool.{not}
 use mathlib.Core.List.{List, [], _∷_}
-use Prim.Native.Nat.{ℕ, _+_, _^_, _≤_, _<_}
+use Prim.Native.Nat.{ℕ, _+_, _≤_, _<_}
 use borrow.Author.Tests.{ltb-true}
 use lib.Dec.{eqb, ltb}
 use Rattle.answers.specs.Number.{numberOf}
 use Rattle.base.specs.Below.{one}
 use Rattle.notification_calls.specs.Calls.{notifyOut, without, drainOut, cleanupOut}
 use Rattle.revocation_calls.specs.Calls.{revokeOut, revokeCapabilityOut, revokeHeldOut, revokeBatchOut}
-use Rattle.revocation_calls.specs.Revoking.{revokingToken, revokingHeld, revokingEach}
+use Rattle.revocation_calls.specs.Revoking.{revokingToken, revokingEach}
 use Rattle.revocation_calls.proofs.laws.Kept.{revoking-token-kept}
 use Rattle.revocation_calls.proofs.laws.RevokingWays.{pairsAfter, newPair, pairsWith, revoking-leaves, token-leaves}
 use Rattle.revocation_steps.specs.Revocation.{logStep, queueFor, notifyStep, freeStep}
 use Rattle.revocation_steps.proofs.laws.CascadeSteps.{revokeStep}
-use Rattle.space.specs.Lookup.{lookedUp}
 use Rattle.steps.specs.Replies.{Left, WithArea}
-use Rattle.steps.specs.Steps.{spaceOf, lookupStep, addStep}
+use Rattle.steps.specs.Steps.{lookupStep, addStep}
 use Rattle.steps.specs.declared.Reply.{Reply}
-use Rattle.steps.proofs.laws.Cases.{pick-by-cases, when-by-cases}
+use Rattle.steps.proofs.laws.Cases.{pick-by-cases}
 use Rattle.steps.proofs.laws.Entered.{world-by-cases}
 use Rattle.steps.proofs.laws.SpaceSteps.{lookup-step-kept}
-use Rattle.table.specs.declared.Got.{Got}
-use Rattle.table.specs.declared.Got.the-variants.{Entry, Nothing}
-use Rattle.token.specs.Rights.{holds}
 use Rattle.world.specs.Numbers.{numbersOf, registeredOf, epochWord}
 use Rattle.world.specs.Sound.{SoundAt, Sound}
 use Rattle.world.specs.declared.Numbers.{Numbers}
@@ -57,12 +52,6 @@ module _ (d : Numbers) (R : List ℕ → List ℕ → Type 0) (steady : Steady d
         token-leaves d mem (R mem) (steady .stays mem sound) token time listed
         (λ inside fits. steady .cascades mem sound _ inside fits time listed)
         (steady .joins mem sound token)
-
-    held-steady : (got : Got) (visits : ℕ) → R mem (revokingHeld d token time listed mem got visits .memory)
-    held-steady Nothing visits = steady .stays mem sound
-    held-steady (Entry e) visits =
-        when-by-cases (λ (out : Left Reply). R mem (out .memory)) _ _ (not (holds (e .rights .0) (2 ^ 4)))
-        (λ without. steady .stays mem sound) (λ with′. token-steady)
 
   each-steady :
       (tokens : List ℕ) (gave : ℕ) (mem : List ℕ) → SoundAt d mem → R mem (revokingEach d tokens time listed gave mem .memory)
@@ -99,11 +88,12 @@ module _ (mem : List ℕ) (sound : Sound mem) (R : List ℕ → List ℕ → Typ
 
   pub held-revoke-steady : (s token time : ℕ) (listed : List ℕ) → R mem (revokeHeldOut mem s token time listed .memory)
   held-revoke-steady s token time listed =
+      let looks : s < d .spaces → R mem (lookupStep d s token mem) = λ there. steady .looks mem sound s there token in
       held-by-cases mem time listed Leaves (λ bad. as-it-is) s token (λ sound far. as-it-is) (λ sound there many. as-it-is)
-      (λ sound there few.
-      let l = lookedUp (spaceOf d s mem) token in
-      steady .follows mem _ _ (steady .looks mem sound s there token)
-      (held-steady d R steady time listed _ (lookup-step-kept d mem sound s there token .sound) token (l .got) (l .visits)))
+      (λ sound there few none. looks there) (λ sound there few e is lacks. looks there)
+      (λ sound there few e is has.
+      steady .follows mem _ _ (looks there)
+      (token-steady d R steady time listed _ (lookup-step-kept d mem sound s there token .sound) token))
 
   pub batch-steady : (tokens : List ℕ) (time : ℕ) (listed : List ℕ) → R mem (revokeBatchOut mem tokens time listed .memory)
   batch-steady tokens time listed =

@@ -1,41 +1,31 @@
 -- 26 is answered exactly on memory that is not sound, 20 exactly on a sound one for a space number of S or more; and 0 exactly on a sound
 -- one by the calls with no refusal of their own. RevokeTold.antt, HeldTold.antt and ListsTold.antt say of each other answer when it is
 -- given.
-use mathlib.Core.Bool.{not}
 use mathlib.Core.List.{List}
 use mathlib.Core.Logic.{_↔_}
-use mathlib.Core.Path.{_≡_, refl, ap}
-use Prim.Native.Nat.{ℕ, _^_}
+use mathlib.Core.Path.{_≡_, refl}
+use Prim.Native.Nat.{ℕ}
 use native.Mathlib.Omega.{arith}
-use lib.Dec.{leb, ltb}
+use lib.Dec.{ltb}
 use lib.ListN.{length}
-use Rattle.answers.specs.Number.{numberOf}
 use Rattle.answers.specs.declared.Answer.{Answer}
 use Rattle.answers.specs.declared.Answer.the-variants.{Done, InvalidCapability, InsufficientRights, NotFound, BadField, PidTableFull, BadWorld}
-use Rattle.base.specs.Choose.{both, when}
-use Rattle.revocation_steps.specs.Revocation.{queueFor, freeQueue}
-use Rattle.space.specs.Lookup.{lookedUp}
-use Rattle.steps.specs.Enter.{onWorld}
+use Rattle.base.specs.Choose.{when}
 use Rattle.steps.specs.Replies.{Left, WithArea, refuse, intoArea}
-use Rattle.steps.specs.Steps.{spaceOf, lookupStep, placeIn}
+use Rattle.steps.specs.Steps.{placeIn}
 use Rattle.steps.specs.declared.Reply.{Reply}
-use Rattle.steps.proofs.laws.Cases.{answerOf, when-by-cases, given}
-use Rattle.steps.proofs.laws.Entered.{world-by-cases}
+use Rattle.steps.proofs.laws.Cases.{answerOf, either}
 use Rattle.steps.proofs.laws.Listed.{into-by-cases}
-use Rattle.steps.proofs.laws.Told.{Told, Inner, told, world-told, inner, inner-0}
-use Rattle.table.specs.declared.Got.{Got}
-use Rattle.table.specs.declared.Got.the-variants.{Entry, Nothing}
-use Rattle.token.specs.Rights.{holds}
+use Rattle.steps.proofs.laws.Told.{Told, Inner, told-26, told-20, told-own, world-told, world-told-0, inner, inner-0}
 use Rattle.token.specs.Token.{idOf}
-use Rattle.world.specs.Numbers.{numbersOf, registeredOf}
+use Rattle.world.specs.Numbers.{numbersOf}
 use Rattle.world.specs.Sound.{Sound}
 use Rattle.world.specs.declared.Numbers.{Numbers}
-use Rattle.notification_calls.specs.Calls.{notifyOut, noticesFor, peekOut, drainOut, notificationCountOut, cleanupOut, notificationStatsOut}
+use Rattle.notification_calls.specs.Calls.{notifyOut, peekOut, drainOut, notificationCountOut, cleanupOut, notificationStatsOut}
 use Rattle.notification_calls.specs.declared.QueuesReply.{QueuesReply}
 use Rattle.revocation_calls.specs.Calls.{revokeOut, revokeCapabilityOut, revokeHeldOut, revokeBatchOut}
 use Rattle.revocation_reads.specs.Calls.{isRevokedOut, epochOut, descendants, descendantsOut}
-use Rattle.revocation_calls.specs.Revoking.{revokingHeld}
-use Rattle.revocation_laws.proofs.laws.Ways.{Own, own-not, revoking-own, revoking-token-own, each-done}
+use Rattle.revocation_laws.proofs.laws.Ways.{Own, own-not, revoking-own, revoking-token-own, each-done, held-by-cases}
 use Rattle.revocation_laws.proofs.laws.NoticeWays.{drain-peeks}
 
 -- ---- no answer of a call's own is either
@@ -52,14 +42,6 @@ inner-own a own = record {
   not-20 = own-not a own 20 (λ e. omega arith) (λ e. omega arith) (λ e. omega arith);
 }
 
-inner-held :
-    (d : Numbers) (token time : ℕ) (listed mem : List ℕ) (got : Got) (visits : ℕ)
-    → Inner (revokingHeld d token time listed mem got visits .reply .answer)
-inner-held d token time listed mem Nothing visits = inner NotFound refl refl
-inner-held d token time listed mem (Entry e) visits =
-    when-by-cases Fine _ _ (not (holds (e .rights .0) (2 ^ 4))) (λ without. inner InsufficientRights refl refl)
-    (λ with′. inner-own _ (revoking-token-own d mem token time listed))
-
 inner-listed : (xs area : List ℕ) → Inner (intoArea xs area .reply .answer)
 inner-listed xs area = into-by-cases xs area FineList (λ short. inner BadField refl refl) (λ fits. inner-0)
 
@@ -72,16 +54,15 @@ module _ (mem : List ℕ) where
   module _ (time : ℕ) (listed : List ℕ) where
     -- 21 for too long a process list.
     fine-list : (out : Left Reply) → Fine out → Fine (when (ltb 32 (length listed)) (refuse mem BadField) out)
-    fine-list out fine = when-by-cases Fine _ _ (ltb 32 (length listed)) (λ many. inner BadField refl refl) (λ few. fine)
+    fine-list out fine = either Fine _ _ _ (inner BadField refl refl) fine
 
     pub revoke-entered : (token : ℕ) → (revokeOut mem token time listed .reply .answer ≡ BadWorld) ↔ (¬ Sound mem)
     unfolding revokeOut
     revoke-entered token =
-        let r : ℕ = placeIn d mem (idOf token) in
         world-told answerOf _ mem _ (λ a. refl)
         (fine-list _
-        (when-by-cases Fine _ _ (not (ltb r (registeredOf mem))) (λ outside. inner InvalidCapability refl refl)
-        (λ inside. inner-own _ (revoking-own d mem r time listed))))
+        (either Fine _ _ _ (inner InvalidCapability refl refl)
+        (inner-own _ (revoking-own d mem (placeIn d mem (idOf token)) time listed))))
 
     pub revoke-capability-entered :
         (token : ℕ) → (revokeCapabilityOut mem token time listed .reply .answer ≡ BadWorld) ↔ (¬ Sound mem)
@@ -90,17 +71,18 @@ module _ (mem : List ℕ) where
         world-told answerOf _ mem _ (λ a. refl) (fine-list _ (inner-own _ (revoking-token-own d mem token time listed)))
 
     pub held-entered : (s token : ℕ) → Told mem s (revokeHeldOut mem s token time listed .reply .answer)
-    unfolding revokeHeldOut
     held-entered s token =
-        let l = lookedUp (spaceOf d s mem) token in
-        told answerOf _ mem _ (λ a. refl) (fine-list _ (inner-held d token time listed (lookupStep d s token mem) (l .got) (l .visits))) s
+        held-by-cases mem time listed (λ out. Told mem s (answerOf out)) (told-26 mem s) s token (told-20 mem s)
+        (λ sound there many. told-own mem s sound there BadField (inner BadField refl refl))
+        (λ sound there few none. told-own mem s sound there NotFound (inner NotFound refl refl))
+        (λ sound there few e is lacks. told-own mem s sound there InsufficientRights (inner InsufficientRights refl refl))
+        (λ sound there few e is has. told-own mem s sound there _ (inner-own _ (revoking-token-own d _ token time listed)))
 
     pub batch-entered : (tokens : List ℕ) → (revokeBatchOut mem tokens time listed .reply .answer ≡ BadWorld) ↔ (¬ Sound mem)
     unfolding revokeBatchOut
     batch-entered tokens =
         world-told answerOf _ mem _ (λ a. refl)
-        (when-by-cases Fine _ _ (ltb 65535 (length tokens)) (λ over. inner BadField refl refl)
-        (λ fits. fine-list _ (rw (each-done d tokens time listed 0 mem) inner-0)))
+        (either Fine _ _ _ (inner BadField refl refl) (fine-list _ (rw (each-done d tokens time listed 0 mem) inner-0)))
 
   pub is-revoked-entered : (token : ℕ) → (isRevokedOut mem token .answer ≡ BadWorld) ↔ (¬ Sound mem)
   unfolding isRevokedOut
@@ -114,26 +96,19 @@ module _ (mem : List ℕ) where
   unfolding descendantsOut
   descendants-entered id area =
       world-told (λ (l : WithArea). l .reply .answer) _ mem _ (λ a. refl)
-      (when-by-cases FineList _ _ (leb (2 ^ 48) id) (λ over. inner BadField refl refl)
-      (λ fits. inner-listed (descendants d mem (placeIn d mem id)) area))
+      (either FineList _ _ _ (inner BadField refl refl) (inner-listed (descendants d mem (placeIn d mem id)) area))
 
   pub notify-entered : (pid id reason time : ℕ) → (notifyOut mem pid id reason time .reply .answer ≡ BadWorld) ↔ (¬ Sound mem)
   unfolding notifyOut
   notify-entered pid id reason time =
       world-told answerOf _ mem _ (λ a. refl)
-      (when-by-cases Fine _ _ (leb (2 ^ 48) id) (λ over. inner BadField refl refl)
-      (λ fits.
-      when-by-cases Fine _ _ (ltb 3 reason) (λ over. inner BadField refl refl)
-      (λ coded.
-      when-by-cases Fine _ _ (both (not (ltb (queueFor d mem pid) (d .queues))) (not (ltb (freeQueue d mem) (d .queues))))
-      (λ full. inner PidTableFull refl refl) (λ room. inner-0))))
+      (either Fine _ _ _ (inner BadField refl refl)
+      (either Fine _ _ _ (inner BadField refl refl) (either Fine _ _ _ (inner PidTableFull refl refl) inner-0)))
 
   pub peek-entered : (pid : ℕ) (area : List ℕ) → (peekOut mem pid area .reply .answer ≡ BadWorld) ↔ (¬ Sound mem)
   unfolding peekOut
   peek-entered pid area =
-      world-told (λ (l : WithArea). l .reply .answer) _ mem _ (λ a. refl)
-      (when-by-cases FineList _ _ (ltb (length area) (length (noticesFor d mem (queueFor d mem pid)))) (λ short. inner BadField refl refl)
-      (λ fits. inner-0))
+      world-told (λ (l : WithArea). l .reply .answer) _ mem _ (λ a. refl) (either FineList _ _ _ (inner BadField refl refl) inner-0)
 
   pub drain-entered : (pid : ℕ) (area : List ℕ) → (drainOut mem pid area .reply .reply .answer ≡ BadWorld) ↔ (¬ Sound mem)
   drain-entered pid area = rw (drain-peeks mem pid area) (peek-entered pid area)
@@ -152,32 +127,23 @@ module _ (mem : List ℕ) where
 
 -- ---- 0 of the calls with no refusal of their own
 
-always-0 :
-    {A : Type 0} (answerOf : A → Answer) (refusing : Answer → A) (mem : List ℕ) (call : Numbers → A)
-    → answerOf (refusing BadWorld) ≡ BadWorld → answerOf (call (numbersOf mem)) ≡ Done
-    → (answerOf (onWorld refusing mem call) ≡ Done) ↔ Sound mem
-always-0 answerOf refusing mem call says made =
-    world-by-cases (λ r. (answerOf r ≡ Done) ↔ Sound mem) refusing mem call
-    (λ bad. (λ e. absurd (omega (arith, ap numberOf e, ap numberOf says)), λ sound. absurd (bad sound)))
-    (given made)
-
 module _ (mem : List ℕ) where
   pub is-revoked-told-0 : (token : ℕ) → (isRevokedOut mem token .answer ≡ Done) ↔ Sound mem
   unfolding isRevokedOut
-  is-revoked-told-0 token = always-0 (λ (r : Reply). r .answer) _ mem _ refl refl
+  is-revoked-told-0 token = world-told-0 (λ (r : Reply). r .answer) _ mem _ (λ a. refl) refl
 
   pub epoch-told-0 : (epochOut mem .answer ≡ Done) ↔ Sound mem
   unfolding epochOut
-  epoch-told-0 = always-0 (λ (r : Reply). r .answer) _ mem _ refl refl
+  epoch-told-0 = world-told-0 (λ (r : Reply). r .answer) _ mem _ (λ a. refl) refl
 
   pub notification-count-told-0 : (pid : ℕ) → (notificationCountOut mem pid .answer ≡ Done) ↔ Sound mem
   unfolding notificationCountOut
-  notification-count-told-0 pid = always-0 (λ (r : Reply). r .answer) _ mem _ refl refl
+  notification-count-told-0 pid = world-told-0 (λ (r : Reply). r .answer) _ mem _ (λ a. refl) refl
 
   pub cleanup-told-0 : (pid : ℕ) → (cleanupOut mem pid .reply .answer ≡ Done) ↔ Sound mem
   unfolding cleanupOut
-  cleanup-told-0 pid = always-0 answerOf _ mem _ refl refl
+  cleanup-told-0 pid = world-told-0 answerOf _ mem _ (λ a. refl) refl
 
   pub notification-stats-told-0 : (notificationStatsOut mem .answer ≡ Done) ↔ Sound mem
   unfolding notificationStatsOut
-  notification-stats-told-0 = always-0 (λ (r : QueuesReply). r .answer) _ mem _ refl refl
+  notification-stats-told-0 = world-told-0 (λ (r : QueuesReply). r .answer) _ mem _ (λ a. refl) refl

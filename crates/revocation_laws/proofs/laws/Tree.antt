@@ -2,10 +2,9 @@
 use mathlib.Core.List.{List, []}
 use mathlib.Core.Logic.{_↔_, _≢_, _⊎_, inl, inr}
 use mathlib.Core.Path.{_≡_, refl, sym, ap, _∙_}
-use Prim.Native.Nat.{ℕ, zero, suc, _+_, _^_, _≤_, _<_}
+use Prim.Native.Nat.{ℕ, zero, suc, _+_, _≤_, _<_}
 use native.Mathlib.Omega.{arith}
 use borrow.Author.Tests.{lt-ltb, le-ltb}
-use lib.Dec.{leb}
 use lib.ListN.{length, getD, drop, length-drop}
 use lib.Seq.{getD-drop}
 use Rattle.answers.specs.Number.{numberOf}
@@ -20,7 +19,7 @@ use Rattle.registry.specs.HoldersLaws.{place-holds, place-is}
 use Rattle.registry.specs.PlaceLists.{AllBelow}
 use Rattle.steps.specs.Replies.{WithArea}
 use Rattle.steps.specs.Steps.{placeIn, ChildOf}
-use Rattle.steps.proofs.laws.Cases.{when-by-cases}
+use Rattle.steps.proofs.laws.Cases.{either}
 use Rattle.steps.proofs.laws.Entered.{world-by-cases}
 use Rattle.steps.proofs.laws.Listed.{into-by-cases}
 use Rattle.world.specs.Numbers.{numbersOf, registeredOf}
@@ -156,8 +155,8 @@ unfolding descendantsOut
 descendants-listed mem id area =
     world-by-cases Lists _ mem _ (λ bad e. absurd (omega (arith, ap numberOf e)))
     (λ sound.
-    when-by-cases Lists _ _ (leb (2 ^ 48) id) (λ over e. absurd (omega (arith, ap numberOf e)))
-    (λ fits. into-by-cases list area Lists (λ short e. absurd (omega (arith, ap numberOf e))) (λ long e. (refl, refl))))
+    either Lists _ _ _ (λ e. absurd (omega (arith, ap numberOf e)))
+    (into-by-cases list area Lists (λ short e. absurd (omega (arith, ap numberOf e))) (λ long e. (refl, refl))))
   where
     list : List ℕ
     list = descendants (numbersOf mem) mem (placeIn (numbersOf mem) mem id)

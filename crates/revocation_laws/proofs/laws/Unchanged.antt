@@ -1,12 +1,11 @@
 -- What refusals leave: a refusal's value is 0 and it changes nothing, not even the lent area, but that the lookup of a held revoke stays
 -- counted. And an id that is revoked already: 0, nothing changes.
-use mathlib.Core.Bool.{true, not}
+use mathlib.Core.Bool.{true}
 use mathlib.Core.List.{List}
 use mathlib.Core.Logic.{_≢_}
 use mathlib.Core.Path.{_≡_, refl, ap, _∙_}
 use Prim.Native.Nat.{ℕ, _^_, _≤_, _<_}
 use native.Mathlib.Omega.{arith}
-use lib.Dec.{leb, ltb}
 use lib.ListN.{length}
 use Rattle.answers.specs.declared.Answer.{Answer}
 use Rattle.answers.specs.declared.Answer.the-variants.{Done, InvalidCapability, BadField, LogFull, PidTableFull, BadWorld}
@@ -16,12 +15,11 @@ use Rattle.space.specs.Lookup.{lookedUp}
 use Rattle.steps.specs.Replies.{Left, WithArea, replied, done, refusal, refuse, intoArea}
 use Rattle.steps.specs.Steps.{spaceOf, lookupStep, placeIn}
 use Rattle.steps.specs.declared.Reply.{Reply}
-use Rattle.steps.proofs.laws.Cases.{when-by-cases}
+use Rattle.steps.proofs.laws.Cases.{either}
 use Rattle.steps.proofs.laws.Entered.{world-by-cases}
 use Rattle.steps.proofs.laws.Listed.{into-by-cases}
 use Rattle.table.specs.declared.CapabilityEntry.{CapabilityEntry}
-use Rattle.table.specs.declared.Got.{Got}
-use Rattle.table.specs.declared.Got.the-variants.{Entry, Nothing}
+use Rattle.table.specs.declared.Got.the-variants.{Entry}
 use Rattle.token.specs.Rights.{holds}
 use Rattle.token.specs.Token.{idOf}
 use Rattle.world.specs.Numbers.{numbersOf, registeredOf}
@@ -31,7 +29,7 @@ use Rattle.notification_calls.specs.Calls.{notifyOut, peekOut, drainOut, cleanu
 use Rattle.revocation_calls.specs.Calls.{revokeOut, revokeCapabilityOut, revokeHeldOut, revokeBatchOut}
 use Rattle.revocation_reads.specs.Calls.{descendants, descendantsOut, reasonOut}
 use Rattle.cascade.specs.Cascade.{revoking}
-use Rattle.revocation_calls.specs.Revoking.{revokingToken, revokingHeld}
+use Rattle.revocation_calls.specs.Revoking.{revokingToken}
 use Rattle.revocation_calls.proofs.laws.RevokingWays.{revoking-by-cases, logging-by-cases, revoking-token-by-cases}
 use Rattle.revocation_laws.proofs.laws.Counted.{same-registered, same-registry}
 use Rattle.revocation_laws.proofs.laws.NoticeWays.{notify-by-cases, peek-by-cases, drain-by-cases, drain-peeks}
@@ -123,31 +121,19 @@ module _ (mem : List ℕ) (time : ℕ) (listed : List ℕ) where
     abbrev after : List ℕ
     after = lookupStep d s token mem
 
-    abbrev visits : ℕ
-    visits = lookedUp (spaceOf d s mem) token .visits
-
-    abbrev looked : Got → Left Reply
-    looked g = revokingHeld d token time listed after g visits
-
     -- No value, whatever it answers.
     pub held-value : revokeHeldOut mem s token time listed .reply .value ≡ 0
     held-value =
-        held-by-cases mem time listed None (λ bad. refl) s token (λ sound far. refl) (λ sound there many. refl)
-        (λ sound there few. go (lookedUp (spaceOf d s mem) token .got))
-      where
-        None : Left Reply → Type 0
-        None out = out .reply .value ≡ 0
-
-        go : (g : Got) → None (looked g)
-        go Nothing = refl
-        go (Entry e) = when-by-cases None _ _ (not (holds (e .rights .0) (2 ^ 4))) (λ without. refl) (λ with′. refl)
+        held-by-cases mem time listed (λ out. out .reply .value ≡ 0) (λ bad. refl) s token (λ sound far. refl) (λ sound there many. refl)
+        (λ sound there few none. refl) (λ sound there few e is lacks. refl) (λ sound there few e is has. refl)
 
     -- 26, 20, 21.
     pub held-unentered :
         (Sound mem → s < numbersOf mem .spaces → length listed ≤ 32 → ⊥) → revokeHeldOut mem s token time listed .memory ≡ mem
     held-unentered unentered =
         held-by-cases mem time listed (λ (out : Left Reply). out .memory ≡ mem) (λ bad. refl) s token (λ sound far. refl)
-        (λ sound there many. refl) (λ sound there few. absurd (unentered sound there few))
+        (λ sound there many. refl) (λ sound there few none. absurd (unentered sound there few))
+        (λ sound there few e is lacks. absurd (unentered sound there few)) (λ sound there few e is has. absurd (unentered sound there few))
 
     module _ (sound : Sound mem) (there : s < numbersOf mem .spaces) (few : length listed ≤ 32) where
       -- 8, 2, 24, 25: the lookup is counted.
@@ -155,18 +141,10 @@ module _ (mem : List ℕ) (time : ℕ) (listed : List ℕ) where
           revokeHeldOut mem s token time listed .reply .answer ≢ Done
           → revokeHeldOut mem s token time listed .memory ≡ lookupStep (numbersOf mem) s token mem
       held-unchanged =
-          held-by-cases mem time listed Counted (λ bad. absurd (bad sound)) s token (λ sound far. absurd (omega arith))
-          (λ sound there many. absurd (omega arith))
-          (λ sound there few. go (lookedUp (spaceOf d s mem) token .got))
-        where
-          Counted : Left Reply → Type 0
-          Counted out = out .reply .answer ≢ Done → out .memory ≡ after
-
-          go : (g : Got) → Counted (looked g)
-          go Nothing = λ not-0. refl
-          go (Entry e) =
-              when-by-cases Counted _ _ (not (holds (e .rights .0) (2 ^ 4))) (λ without not-0. refl)
-              (λ with′. token-unchanged d after token time listed .same-memory)
+          held-by-cases mem time listed (λ out. out .reply .answer ≢ Done → out .memory ≡ after) (λ bad. absurd (bad sound)) s token
+          (λ sound far. absurd (omega arith)) (λ sound there many. absurd (omega arith)) (λ sound there few none not-0. refl)
+          (λ sound there few e is lacks not-0. refl)
+          (λ sound there few e is has. token-unchanged d after token time listed .same-memory)
 
       -- Held with REVOKE, and revoked already: the lookup is counted, and that is all.
       pub held-already :
@@ -183,7 +161,7 @@ module _ (mem : List ℕ) (time : ℕ) (listed : List ℕ) where
           let words = same-registry d mem sound s there token in
           let already = token-already d after token time listed (rw (count, words) inside) (rw (count, words) gone) in
           held-with-revoke mem sound time listed few s token there e is with′
-          ∙ ap (withVisits visits) already
+          ∙ ap (withVisits (lookedUp (spaceOf d s mem) token .visits)) already
 
 -- ---- notifications
 
@@ -212,8 +190,7 @@ listed-unchanged xs area = into-by-cases xs area (UnchangedArea area) (λ short.
 pub reason-unchanged : (reason : ℕ) (area : List ℕ) → UnchangedArea area (reasonOut reason area)
 unfolding reasonOut
 reason-unchanged reason area =
-    when-by-cases (UnchangedArea area) _ _ (ltb 3 reason) (λ over. refused-list area BadField)
-    (λ coded. listed-unchanged (nameOf (reasonOf reason)) area)
+    either (UnchangedArea area) _ _ _ (refused-list area BadField) (listed-unchanged (nameOf (reasonOf reason)) area)
 
 module _ (mem : List ℕ) where
   pub descendants-unchanged : (id : ℕ) (area : List ℕ) → UnchangedArea area (descendantsOut mem id area)
@@ -221,8 +198,8 @@ module _ (mem : List ℕ) where
   descendants-unchanged id area =
       world-by-cases (UnchangedArea area) _ mem _ (λ bad. refused-list area BadWorld)
       (λ sound.
-      when-by-cases (UnchangedArea area) _ _ (leb (2 ^ 48) id) (λ over. refused-list area BadField)
-      (λ fits. listed-unchanged (descendants (numbersOf mem) mem (placeIn (numbersOf mem) mem id)) area))
+      either (UnchangedArea area) _ _ _ (refused-list area BadField)
+      (listed-unchanged (descendants (numbersOf mem) mem (placeIn (numbersOf mem) mem id)) area))
 
   pub peek-unchanged : (pid : ℕ) (area : List ℕ) → UnchangedArea area (peekOut mem pid area)
   peek-unchanged pid area =

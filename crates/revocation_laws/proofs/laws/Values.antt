@@ -5,14 +5,11 @@ use mathlib.Core.Path.{_≡_, refl}
 use Prim.Native.Nat.{ℕ}
 use Rattle.answers.specs.declared.Answer.the-variants.{Done}
 use Rattle.steps.specs.Replies.{refusal}
-use Rattle.steps.specs.declared.Reply.{Reply}
+use Rattle.steps.proofs.laws.Cases.{NoValue}
 use Rattle.steps.proofs.laws.Entered.{world-by-cases}
 use Rattle.notification_calls.specs.Calls.{notificationCountOut, noQueues, notificationStatsOut}
 use Rattle.notification_calls.specs.declared.QueuesReply.{QueuesReply}
 use Rattle.revocation_reads.specs.Calls.{isRevokedOut, epochOut}
-
-abbrev NoValue : Reply → Type 0
-NoValue r = r .answer ≢ Done → r .value ≡ 0
 
 module _ (mem : List ℕ) where
   pub is-revoked-value : (token : ℕ) → isRevokedOut mem token .answer ≢ Done → isRevokedOut mem token .value ≡ 0

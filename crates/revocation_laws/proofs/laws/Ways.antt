@@ -1,26 +1,28 @@
 -- The ways through the calls that revoke: what holds of each ending holds of the whole; and which answers are a revocation's own.
-use mathlib.Core.Bool.{true, not}
+use mathlib.Core.Bool.{true, false, not}
 use mathlib.Core.List.{List, [], _∷_}
 use mathlib.Core.Logic.{_≢_, _⊎_, inl, inr, ⊎-elim}
 use mathlib.Core.Path.{_≡_, refl, sym, ap, _∙_}
 use Prim.Native.Nat.{ℕ, _+_, _^_, _≤_, _<_}
 use native.Mathlib.Omega.{arith}
-use borrow.Author.Tests.{ltb-true, ltb-false}
+use borrow.Author.Tests.{not-true, not-false, le-ltb}
 use lib.Dec.{eqb, ltb}
 use lib.ListN.{length}
 use Rattle.answers.specs.Number.{numberOf}
 use Rattle.answers.specs.declared.Answer.{Answer}
-use Rattle.answers.specs.declared.Answer.the-variants.{Done, InvalidCapability, BadSpace, BadField, BadWorld}
+use Rattle.answers.specs.declared.Answer.the-variants.{Done, InvalidCapability, InsufficientRights, NotFound, BadSpace, BadField, BadWorld}
 use Rattle.base.specs.Below.{one}
 use Rattle.base.specs.Choose.{when, when-no}
 use Rattle.space.specs.Lookup.{lookedUp}
+use Rattle.space.specs.declared.LookedUp.{LookedUp}
 use Rattle.steps.specs.Replies.{Left, replied, refuse}
 use Rattle.steps.specs.Steps.{spaceOf, lookupStep, placeIn}
 use Rattle.steps.specs.declared.Reply.{Reply}
-use Rattle.steps.proofs.laws.Cases.{when-by-cases, unless-below}
-use Rattle.steps.proofs.laws.Entered.{world-by-cases, space-by-cases}
+use Rattle.steps.proofs.laws.Cases.{when-by-cases, when-below, unless-below}
+use Rattle.steps.proofs.laws.Entered.{world-by-cases, space-by-cases, space-called}
 use Rattle.table.specs.declared.CapabilityEntry.{CapabilityEntry}
-use Rattle.table.specs.declared.Got.the-variants.{Entry}
+use Rattle.table.specs.declared.Got.{Got}
+use Rattle.table.specs.declared.Got.the-variants.{Entry, Nothing}
 use Rattle.token.specs.Rights.{holds}
 use Rattle.token.specs.Token.{idOf}
 use Rattle.world.specs.Numbers.{numbersOf, registeredOf}
@@ -65,6 +67,24 @@ each-done d (token ∷ tokens) time listed gave mem =
     let left = revokingToken d token time listed mem in
     each-done d tokens time listed (gave + one (eqb (numberOf (left .reply .answer)) 0)) (left .memory)
 
+-- A revocation with the visits of a lookup as its count.
+abbrev pub withVisits : ℕ → Left Reply → Left Reply
+withVisits visits left = record { reply = replied (left .reply .answer) 0 visits; memory = left .memory }
+
+-- A held revoke by what its lookup got: nothing, an entry without REVOKE, or one with it.
+pub revoking-held-by-cases :
+    (d : Numbers) (token time : ℕ) (listed mem : List ℕ) (P : Left Reply → Type 0) (got : Got) (visits : ℕ)
+    → (got ≡ Nothing → P (record { reply = replied NotFound 0 visits; memory = mem }))
+    → ((e : CapabilityEntry) → got ≡ Entry e → holds (e .rights .0) (2 ^ 4) ≡ false
+    → P (record { reply = replied InsufficientRights 0 visits; memory = mem }))
+    → ((e : CapabilityEntry) → got ≡ Entry e → holds (e .rights .0) (2 ^ 4) ≡ true
+    → P (withVisits visits (revokingToken d token time listed mem)))
+    → P (revokingHeld d token time listed mem got visits)
+revoking-held-by-cases d token time listed mem P Nothing visits absent without with′ = absent refl
+revoking-held-by-cases d token time listed mem P (Entry e) visits absent without with′ =
+    when-by-cases P _ _ (not (holds (e .rights .0) (2 ^ 4)))
+    (λ h. without e refl (not-true _ h)) (λ h. with′ e refl (not-false _ h))
+
 -- ---- the calls
 
 module _ (mem : List ℕ) (time : ℕ) (listed : List ℕ) (P : Left Reply → Type 0) (bad : ¬ Sound mem → P (refuse mem BadWorld)) where
@@ -75,8 +95,7 @@ module _ (mem : List ℕ) (time : ℕ) (listed : List ℕ) (P : Left Reply → T
   few-by-cases :
       (out : Left Reply) → (32 < length listed → P (refuse mem BadField)) → (length listed ≤ 32 → P out)
       → P (when (ltb 32 (length listed)) (refuse mem BadField) out)
-  few-by-cases out many few =
-      when-by-cases P _ _ (ltb 32 (length listed)) (λ e. many (ltb-true 32 _ e)) (λ e. few (ltb-false 32 _ e))
+  few-by-cases out many few = when-below P _ _ 32 (length listed) many few
 
   pub revoke-by-cases :
       (token : ℕ) → (Sound mem → 32 < length listed → P (refuse mem BadField))
@@ -99,16 +118,30 @@ module _ (mem : List ℕ) (time : ℕ) (listed : List ℕ) (P : Left Reply → T
   revoke-capability-by-cases token many few =
       world-by-cases P (refuse mem) mem _ bad (λ sound. few-by-cases _ (many sound) (few sound))
 
-  pub held-by-cases :
-      (s token : ℕ) → (Sound mem → numbersOf mem .spaces ≤ s → P (refuse mem BadSpace))
-      → (Sound mem → s < numbersOf mem .spaces → 32 < length listed → P (refuse mem BadField))
-      → (Sound mem → s < numbersOf mem .spaces → length listed ≤ 32
-      → P (revokingHeld (numbersOf mem) token time listed (lookupStep (numbersOf mem) s token mem)
-      (lookedUp (spaceOf (numbersOf mem) s mem) token .got) (lookedUp (spaceOf (numbersOf mem) s mem) token .visits)))
-      → P (revokeHeldOut mem s token time listed)
-  unfolding revokeHeldOut
-  held-by-cases s token far many few =
-      space-by-cases P (refuse mem) mem _ bad s far (λ sound there. few-by-cases _ (many sound there) (few sound there))
+  module _ (s token : ℕ) where
+    abbrev found : LookedUp
+    found = lookedUp (spaceOf d s mem) token
+
+    abbrev looked : List ℕ
+    looked = lookupStep d s token mem
+
+    pub held-by-cases :
+        (Sound mem → d .spaces ≤ s → P (refuse mem BadSpace)) → (Sound mem → s < d .spaces → 32 < length listed → P (refuse mem BadField))
+        → (Sound mem → s < d .spaces → length listed ≤ 32 → found .got ≡ Nothing
+        → P (record { reply = replied NotFound 0 (found .visits); memory = looked }))
+        → (Sound mem → s < d .spaces → length listed ≤ 32 → (e : CapabilityEntry) → found .got ≡ Entry e
+        → holds (e .rights .0) (2 ^ 4) ≡ false → P (record { reply = replied InsufficientRights 0 (found .visits); memory = looked }))
+        → (Sound mem → s < d .spaces → length listed ≤ 32 → (e : CapabilityEntry) → found .got ≡ Entry e
+        → holds (e .rights .0) (2 ^ 4) ≡ true → P (withVisits (found .visits) (revokingToken d token time listed looked)))
+        → P (revokeHeldOut mem s token time listed)
+    unfolding revokeHeldOut
+    held-by-cases far many absent without with′ =
+        space-by-cases P (refuse mem) mem _ bad s far
+        (λ sound there.
+        few-by-cases _ (many sound there)
+        (λ few.
+        revoking-held-by-cases d token time listed looked P (found .got) (found .visits)
+        (absent sound there few) (without sound there few) (with′ sound there few)))
 
   pub batch-by-cases :
       (tokens : List ℕ) → (Sound mem → 65535 < length tokens → P (refuse mem BadField))
@@ -119,12 +152,7 @@ module _ (mem : List ℕ) (time : ℕ) (listed : List ℕ) (P : Left Reply → T
   batch-by-cases tokens over many few =
       world-by-cases P (refuse mem) mem _ bad
       (λ sound.
-      when-by-cases P _ _ (ltb 65535 (length tokens)) (λ e. over sound (ltb-true 65535 _ e))
-      (λ e. let fits = ltb-false 65535 (length tokens) e in few-by-cases _ (many sound fits) (few sound fits)))
-
--- A revocation with the visits of a lookup as its count.
-abbrev pub withVisits : ℕ → Left Reply → Left Reply
-withVisits visits left = record { reply = replied (left .reply .answer) 0 visits; memory = left .memory }
+      when-below P _ _ 65535 (length tokens) (over sound) (λ fits. few-by-cases _ (many sound fits) (few sound fits)))
 
 -- What they come to with good arguments.
 module _ (mem : List ℕ) (sound : Sound mem) (time : ℕ) (listed : List ℕ) (few : length listed ≤ 32) where
@@ -161,9 +189,9 @@ module _ (mem : List ℕ) (sound : Sound mem) (time : ℕ) (listed : List ℕ) (
 
       pub held-with-revoke :
           revokeHeldOut mem s token time listed ≡ withVisits visits (revokingToken (numbersOf mem) token time listed after)
+      unfolding revokeHeldOut
       held-with-revoke =
-          held-by-cases mem time listed (λ out. out ≡ withVisits visits (revokingToken (numbersOf mem) token time listed after))
-          (λ bad. absurd (bad sound)) s token (λ sound far. absurd (omega arith)) (λ sound there many. absurd (omega arith))
-          (λ sound there few.
-          ap (λ g. revokingHeld (numbersOf mem) token time listed after g visits) is
-          ∙ when-no (not (holds (e .rights .0) (2 ^ 4))) _ _ (ap not with′))
+          space-called (refuse mem) mem _ sound s there
+          ∙ when-no _ _ _ (le-ltb 32 (length listed) few)
+          ∙ ap (λ g. revokingHeld (numbersOf mem) token time listed after g visits) is
+          ∙ when-no (not (holds (e .rights .0) (2 ^ 4))) _ _ (ap not with′)
