@@ -3,9 +3,8 @@
 use mathlib.Core.List.{List}
 use mathlib.Core.Logic.{_↔_}
 use mathlib.Core.Path.{_≡_, refl, sym, ap, _∙_}
-use Prim.Native.Nat.{ℕ, _^_, _<_}
+use Prim.Native.Nat.{ℕ, _<_}
 use native.Mathlib.Omega.{arith}
-use lib.Dec.{leb}
 use lib.ListN.{length, getD}
 use Rattle.answers.specs.Number.{numberOf}
 use Rattle.answers.specs.declared.Answer.the-variants.{Done}
@@ -17,7 +16,7 @@ use Rattle.registry.specs.HoldersLaws.{place-holds, place-is}
 use Rattle.registry.specs.Words.{idAt}
 use Rattle.steps.specs.Replies.{WithArea}
 use Rattle.steps.specs.Steps.{placeIn, ChildOf}
-use Rattle.steps.proofs.laws.Cases.{when-by-cases}
+use Rattle.steps.proofs.laws.Cases.{either}
 use Rattle.steps.proofs.laws.Entered.{world-by-cases}
 use Rattle.steps.proofs.laws.Listed.{into-by-cases}
 use Rattle.world.specs.Numbers.{numbersOf, registeredOf}
@@ -85,9 +84,8 @@ unfolding childrenOut
 children-listed mem id area =
     world-by-cases Lists _ mem _ (λ bad e. absurd (omega (arith, ap numberOf e)))
     (λ sound.
-    when-by-cases Lists _ _ (leb (2 ^ 48) id) (λ over e. absurd (omega (arith, ap numberOf e)))
-    (λ fits.
-    into-by-cases _ area Lists (λ short e. absurd (omega (arith, ap numberOf e)))
+    either Lists _ _ _ (λ e. absurd (omega (arith, ap numberOf e)))
+    (into-by-cases _ area Lists (λ short e. absurd (omega (arith, ap numberOf e)))
     (λ long e. (_, (children-of (numbersOf mem) mem sound id, (refl, refl))))))
   where
     Lists : WithArea → Type 0

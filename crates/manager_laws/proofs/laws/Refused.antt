@@ -1,25 +1,23 @@
 -- When each answer of delete, check and the calls that read is given: 26 exactly on memory that is not sound, 20 exactly on a sound one for
 -- a space number of S or more, every other answer exactly in its stated case. CreateTold.antt and DelegateTold.antt say it of the others.
-use mathlib.Core.Bool.{Bool, true, false, not, true≢false}
+use mathlib.Core.Bool.{Bool, true, false, true≢false}
 use mathlib.Core.List.{List}
 use mathlib.Core.Logic.{_↔_, _⊎_, inl, inr, ⊎-elim}
 use mathlib.Core.Path.{_≡_, refl, sym, ap, _∙_}
 use Prim.Native.Nat.{ℕ, _^_, _≤_, _<_}
 use native.Mathlib.Omega.{arith}
-use borrow.Author.Tests.{leb-true, leb-false}
-use lib.Dec.{leb, ltb}
 use lib.ListN.{length}
 use Rattle.answers.specs.Number.{numberOf}
-use Rattle.answers.specs.declared.Answer.the-variants.{Done, InsufficientRights, CapabilityRevoked, NotFound, BadSpace, BadField, RecycleFull, BadWorld}
+use Rattle.answers.specs.declared.Answer.the-variants.{Done, InsufficientRights, CapabilityRevoked, NotFound, BadField, RecycleFull, BadWorld}
 use Rattle.registry.specs.ChildrenLaws.{child-ids-length}
 use Rattle.space.specs.Lookup.{lookedUp}
 use Rattle.steps.specs.Replies.{Left, WithArea, done, refusal}
-use Rattle.steps.specs.Steps.{spaceOf, lookupStep, placeIn, childrenOf}
+use Rattle.steps.specs.Steps.{spaceOf, placeIn, childrenOf}
 use Rattle.steps.specs.declared.Reply.{Reply}
-use Rattle.steps.proofs.laws.Cases.{answerOf, when-by-cases, Exactly, given, not-given}
-use Rattle.steps.proofs.laws.Entered.{world-by-cases, space-by-cases}
+use Rattle.steps.proofs.laws.Cases.{answerOf, when-from, either, Exactly, given, not-given}
+use Rattle.steps.proofs.laws.Entered.{world-by-cases}
 use Rattle.steps.proofs.laws.Listed.{into-by-cases}
-use Rattle.steps.proofs.laws.Told.{Told, Inner, told, world-told, inner, inner-0}
+use Rattle.steps.proofs.laws.Told.{Told, Inner, told, world-told, told-0, world-told-0, inner, inner-0}
 use Rattle.token.specs.Token.{idOf}
 use Rattle.world.specs.Numbers.{numbersOf, registeredOf, recycledOf}
 use Rattle.world.specs.Regions.{registry, view}
@@ -43,12 +41,7 @@ module _ (mem : List ℕ) where
   unfolding checkOut
   check-entered token required s =
       told answerOf _ mem _ (λ a. refl)
-      (when-by-cases Fine _ _ (not (grants required (lookedUp (spaceOf d s mem) token .got)))
-      (λ without. inner InsufficientRights refl refl)
-      (λ granted.
-      when-by-cases Fine _ _ (not (validIn d (lookupStep d s token mem) token))
-      (λ stale. inner CapabilityRevoked refl refl)
-      (λ good. inner-0)))
+      (either Fine _ _ _ (inner InsufficientRights refl refl) (either Fine _ _ _ (inner CapabilityRevoked refl refl) inner-0))
       s
 
   pub census-entered : (s : ℕ) → Told mem s (censusOut mem s .answer)
@@ -60,8 +53,7 @@ module _ (mem : List ℕ) where
   unfolding deleteOut
   delete-entered token =
       world-told answerOf _ mem _ (λ a. refl)
-      (when-by-cases Fine _ _ (not (ltb (placeIn d mem (idOf token)) (registeredOf mem))) (λ outside. inner NotFound refl refl)
-      (λ inside. when-by-cases Fine _ _ (ltb (d .places) (recycledOf mem)) (λ full. inner RecycleFull refl refl) (λ room. inner-0)))
+      (either Fine _ _ _ (inner NotFound refl refl) (either Fine _ _ _ (inner RecycleFull refl refl) inner-0))
 
   pub is-valid-entered : (token : ℕ) → (isValidOut mem token .answer ≡ BadWorld) ↔ (¬ Sound mem)
   unfolding isValidOut
@@ -80,36 +72,27 @@ module _ (mem : List ℕ) where
   children-entered id area =
       let fine : WithArea → Type 0 = λ (l : WithArea). Inner (l .reply .answer) in
       world-told (λ (l : WithArea). l .reply .answer) _ mem _ (λ a. refl)
-      (when-by-cases fine _ _ (leb (2 ^ 48) id) (λ over. inner BadField refl refl)
-      (λ fits. into-by-cases _ area fine (λ short. inner BadField refl refl) (λ long. inner-0)))
+      (either fine _ _ _ (inner BadField refl refl)
+      (into-by-cases _ area fine (λ short. inner BadField refl refl) (λ long. inner-0)))
 
 -- ---- 0 of the calls with no refusal of their own
 
 module _ (mem : List ℕ) where
   pub is-valid-told-0 : (token : ℕ) → (isValidOut mem token .answer ≡ Done) ↔ Sound mem
   unfolding isValidOut
-  is-valid-told-0 token =
-      world-by-cases (λ (r : Reply). (r .answer ≡ Done) ↔ Sound mem) _ mem _ (not-given BadWorld Done (λ e. omega (arith, e))) (given refl)
+  is-valid-told-0 token = world-told-0 (λ (r : Reply). r .answer) _ mem _ (λ a. refl) refl
 
   pub stats-told-0 : (statsOut mem .answer ≡ Done) ↔ Sound mem
   unfolding statsOut
-  stats-told-0 =
-      world-by-cases (λ (r : StatsReply). (r .answer ≡ Done) ↔ Sound mem) _ mem _ (not-given BadWorld Done (λ e. omega (arith, e)))
-      (given refl)
+  stats-told-0 = world-told-0 (λ (r : StatsReply). r .answer) _ mem _ (λ a. refl) refl
 
   pub tree-stats-told-0 : (treeStatsOut mem .answer ≡ Done) ↔ Sound mem
   unfolding treeStatsOut
-  tree-stats-told-0 =
-      world-by-cases (λ (r : TreeReply). (r .answer ≡ Done) ↔ Sound mem) _ mem _ (not-given BadWorld Done (λ e. omega (arith, e)))
-      (given refl)
+  tree-stats-told-0 = world-told-0 (λ (r : TreeReply). r .answer) _ mem _ (λ a. refl) refl
 
   pub census-told-0 : (s : ℕ) → (censusOut mem s .answer ≡ Done) ↔ (Sound mem × (s < numbersOf mem .spaces))
   unfolding censusOut
-  census-told-0 s =
-      space-by-cases (λ (r : Reply). (r .answer ≡ Done) ↔ (Sound mem × (s < numbersOf mem .spaces))) _ mem _
-      (λ bad. not-given BadWorld Done (λ e. omega (arith, e)) (λ (sound, there). bad sound)) s
-      (λ sound far. not-given BadSpace Done (λ e. omega (arith, e)) (λ (sound, there). omega arith))
-      (λ sound there. given refl (sound, there))
+  census-told-0 s = told-0 (λ (r : Reply). r .answer) _ mem _ (λ a. refl) refl s
 
 -- ---- delete, check, the list of children
 
@@ -191,13 +174,12 @@ module _ (mem : List ℕ) (sound : Sound mem) where
     children-by-cases P refused listed =
         world-by-cases P _ mem _ (λ bad. absurd (bad sound))
         (λ sound.
-        when-by-cases P _ _ (leb (2 ^ 48) id)
-        (λ over. refused (inl (leb-true (2 ^ 48) id over)))
+        when-from P _ _ (2 ^ 48) id (λ over. refused (inl over))
         (λ fits.
         let d : Numbers = numbersOf mem in
         let same = child-ids-length (d .places) (placeIn d mem id) (registeredOf mem) (view d registry mem) in
         into-by-cases _ area P (λ short. refused (inr (omega arith)))
-        (λ long. rw same (listed (leb-false (2 ^ 48) id fits) (omega arith) _))))
+        (λ long. rw same (listed fits (omega arith) _))))
 
     pub children-told-21 :
         (childrenOut mem id area .reply .answer ≡ BadField)

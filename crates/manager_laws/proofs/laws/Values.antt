@@ -3,20 +3,15 @@
 use mathlib.Core.List.{List}
 use mathlib.Core.Logic.{_≢_}
 use mathlib.Core.Path.{_≡_, refl}
-use Prim.Native.Nat.{ℕ, _^_}
-use lib.Dec.{leb}
+use Prim.Native.Nat.{ℕ}
 use Rattle.answers.specs.declared.Answer.the-variants.{Done}
 use Rattle.steps.specs.Replies.{WithArea, refusal}
-use Rattle.steps.specs.declared.Reply.{Reply}
-use Rattle.steps.proofs.laws.Cases.{when-by-cases}
+use Rattle.steps.proofs.laws.Cases.{either, NoValue}
 use Rattle.steps.proofs.laws.Entered.{world-by-cases, space-by-cases}
 use Rattle.steps.proofs.laws.Listed.{into-by-cases}
 use Rattle.manager_calls.specs.Calls.{isValidOut, noStats, statsOut, childrenOut, noTree, treeStatsOut, censusOut}
 use Rattle.manager_calls.specs.declared.StatsReply.{StatsReply}
 use Rattle.manager_calls.specs.declared.TreeReply.{TreeReply}
-
-abbrev NoValue : Reply → Type 0
-NoValue r = r .answer ≢ Done → r .value ≡ 0
 
 module _ (mem : List ℕ) where
   pub is-valid-value : (token : ℕ) → isValidOut mem token .answer ≢ Done → isValidOut mem token .value ≡ 0
@@ -48,8 +43,8 @@ module _ (mem : List ℕ) where
   children-unchanged id area =
       world-by-cases Same _ mem _ (λ bad not-0. (refl, refl))
       (λ sound.
-      when-by-cases Same _ _ (leb (2 ^ 48) id) (λ over not-0. (refl, refl))
-      (λ fits. into-by-cases _ area Same (λ short not-0. (refl, refl)) (λ long not-0. absurd (not-0 refl))))
+      either Same _ _ _ (λ not-0. (refl, refl))
+      (into-by-cases _ area Same (λ short not-0. (refl, refl)) (λ long not-0. absurd (not-0 refl))))
     where
       Same : WithArea → Type 0
       Same l = l .reply .answer ≢ Done → (l .area ≡ area) × (l .reply .value ≡ 0)

@@ -3,15 +3,14 @@ use mathlib.Core.Bool.{Bool, true, false, not}
 use mathlib.Core.List.{List}
 use mathlib.Core.Path.{_≡_, sym, _∙_}
 use Prim.Native.Nat.{ℕ, _≤_, _<_}
-use borrow.Author.Tests.{ltb-true, ltb-false, not-true, not-false}
-use lib.Dec.{ltb}
+use borrow.Author.Tests.{not-true, not-false}
 use Rattle.answers.specs.declared.Answer.{Answer}
 use Rattle.answers.specs.declared.Answer.the-variants.{Done, InsufficientRights, CapabilityRevoked, NotFound, BadSpace, RecycleFull, BadWorld}
 use Rattle.space.specs.Lookup.{lookedUp}
 use Rattle.steps.specs.Replies.{Left, replied, done, refuse}
 use Rattle.steps.specs.Steps.{spaceOf, lookupStep, placeIn, unregisterStep, recycleStep, addStep}
 use Rattle.steps.specs.declared.Reply.{Reply}
-use Rattle.steps.proofs.laws.Cases.{when-by-cases, unless-below}
+use Rattle.steps.proofs.laws.Cases.{when-by-cases, when-below, unless-below}
 use Rattle.steps.proofs.laws.Entered.{world-by-cases, space-by-cases}
 use Rattle.token.specs.Token.{idOf}
 use Rattle.world.specs.Numbers.{numbersOf, registeredOf, recycledOf}
@@ -44,9 +43,7 @@ module _ (mem : List ℕ) (token : ℕ) (P : Left Reply → Type 0) where
       (λ sound.
       unless-below P _ _ (placeIn d mem (idOf token)) (registeredOf mem) (absent sound)
       (λ inside.
-      when-by-cases P _ _ (ltb (d .places) (recycledOf mem))
-      (λ over. full sound inside (ltb-true (d .places) (recycledOf mem) over))
-      (λ room. gone sound inside (ltb-false (d .places) (recycledOf mem) room))))
+      when-below P _ _ (d .places) (recycledOf mem) (full sound inside) (gone sound inside)))
 
 -- ---- check
 
