@@ -1,19 +1,17 @@
 -- When a record is answered 21, on a sound memory of 4 spaces: where it is refused for a field, and for a space revoke of an id over
 -- 2^48-1. No other call of a record has a field out of its range, nor a drain too short an area.
-use mathlib.Core.Bool.{Bool, true, false}
 use mathlib.Core.List.{List, replicate}
 use mathlib.Core.Logic.{_↔_, _≢_, _⊎_, inl, inr, ⊎-elim, by-cases}
 use mathlib.Core.Path.{_≡_, refl, subst, sym, ap, _∙_}
-use Prim.Native.Nat.{ℕ, _-_, _^_, _≤_, _<_}
+use Prim.Native.Nat.{ℕ, _^_, _≤_, _<_}
 use native.Mathlib.Decide.{decLt}
 use native.Mathlib.Omega.{arith}
-use borrow.Author.Tests.{eqb-true, eqb-false, ltb-true, ltb-false}
+use borrow.Author.Tests.{eqb-true, eqb-false, ltb-true}
 use lib.Dec.{eqb, ltb}
 use lib.ListN.{length, length-replicate}
 use Rattle.answers.specs.Number.{numberOf}
 use Rattle.answers.specs.declared.Answer.{Answer}
 use Rattle.answers.specs.declared.Answer.the-variants.{Done, InsufficientRights, CapabilityRevoked, AlreadyExists, NotFound, SpaceQuota, SpaceIds, BadSpace, BadField, RecycleFull, BadWorld}
-use Rattle.base.specs.Choose.{pick}
 use Rattle.delegation_calls.specs.Delegation.{delegateOut}
 use Rattle.manager_laws.proofs.laws.CreateTold.{create-told-21}
 use Rattle.manager_laws.proofs.laws.Delegated as delegate
@@ -29,24 +27,20 @@ use Rattle.revocation_steps.specs.Revocation.{queueFor}
 use Rattle.space.proofs.laws.Insert.{insert-by-cases}
 use Rattle.space.specs.Change.{InsertOut, insertOut}
 use Rattle.space.specs.Lookup.{lookedUp}
-use Rattle.space.specs.Words.{generationOf}
 use Rattle.space_calls.specs.Calls as space
 use Rattle.space_reads.specs.Calls as spaceReads
 use Rattle.space_reads.specs.Replies.{foundReply}
-use Rattle.steps.proofs.laws.Cases.{when-by-cases}
+use Rattle.space_laws.proofs.laws.Told.{revoke-told-21}
+use Rattle.space_laws.proofs.laws.Ways.{create-by-cases}
+use Rattle.steps.proofs.laws.Cases.{when-by-cases, either}
 use Rattle.steps.proofs.laws.Entered.{space-by-cases}
 use Rattle.steps.specs.Enter.{onSpace}
 use Rattle.steps.specs.Replies.{Left, refuse}
-use Rattle.steps.specs.Steps.{spaceOf, takenId, takeStep, newEntry}
+use Rattle.steps.specs.Steps.{spaceOf, newEntry}
 use Rattle.steps.specs.declared.Reply.{Reply}
-use Rattle.steps.specs.declared.Taken.{Taken}
-use Rattle.steps.specs.declared.Taken.the-variants.{Id, Exhausted}
 use Rattle.table.specs.declared.CapabilityEntry.{CapabilityEntry}
 use Rattle.table.specs.declared.Got.{Got}
 use Rattle.table.specs.declared.Got.the-variants.{Entry, Nothing}
-use Rattle.token.specs.Token.{packed, made}
-use Rattle.token.specs.declared.capability.Made.{Made}
-use Rattle.token.specs.declared.capability.Made.the-variants as token
 use Rattle.world.specs.Numbers.{numbersOf}
 use Rattle.world.specs.Sound.{Sound}
 use Rattle.world.specs.declared.Numbers.{Numbers}
@@ -56,7 +50,6 @@ use Rattle.request.specs.declared.Request.{Request}
 use Rattle.request.specs.declared.Verdict.{Verdict}
 use Rattle.request.specs.declared.Verdict.the-variants.{Good, Refused}
 use Rattle.request_run.specs.Run.{pids, drained, called1To5, called6To10, called11To15, called, judged, answered}
-use Rattle.request_laws.proofs.laws.Sound.{either}
 
 other : (a : Answer) → numberOf a ≢ 21 → a ≢ BadField
 other a differs e = differs (ap numberOf e)
@@ -153,19 +146,9 @@ module _ (mem : List ℕ) (sound : Sound mem) where
   inserts s token object rights = on-space s _ (not-inserted (spaceOf d s mem) (newEntry token object rights))
 
   creates : (s rights object : ℕ) → Never (space.createOut mem s rights object)
-  unfolding space.createOut
-  creates s rights object = on-space s _ (taken (takenId d mem))
-    where
-      after : List ℕ
-      after = takeStep d mem
-
-      tokened : (id : ℕ) (m : Made) → Never (space.createMade d s rights object id after m)
-      tokened id (token.Token t) = not-inserted (spaceOf d s after) (newEntry (t .0) object rights)
-      tokened id (token.Refused a) = other SpaceIds (λ e. omega arith)
-
-      taken : (t : Taken) → Never (space.createTaken d s rights object after t)
-      taken (Id id) = tokened id (made id (generationOf (spaceOf d s after)) 0 0)
-      taken Exhausted = other SpaceIds (λ e. omega arith)
+  creates s rights object =
+      create-by-cases mem s rights object Never (λ bad. other BadWorld (λ e. omega arith)) (λ sound far. other BadSpace (λ e. omega arith))
+      (λ sound there none. other SpaceIds (λ e. omega arith)) (λ sound there id is. not-inserted _ _)
 
   drains : (pid : ℕ) → Never (drained pid mem)
   unfolding drained
@@ -185,23 +168,8 @@ module _ (mem : List ℕ) (sound : Sound mem) where
 
   -- A space revoke is the one call of a record that reads an id.
   revokes-exactly : (s id : ℕ) → s < d .spaces → (space.revokeOut mem s id .reply .answer ≡ BadField) ↔ (2 ^ 48 ≤ id)
-  unfolding space.revokeOut
   revokes-exactly s id there =
-      space-by-cases (λ (out : Left Reply). (out .reply .answer ≡ BadField) ↔ (2 ^ 48 ≤ id)) (refuse mem) mem _
-      (λ bad. absurd (bad sound)) s (λ sound far. absurd (omega arith)) (λ sound there. go (ltb (2 ^ 48 - 1) id) refl)
-    where
-      t : ℕ
-      t = packed id (generationOf (spaceOf d s mem)) 0 0
-
-      go : (b : Bool) → ltb (2 ^ 48 - 1) id ≡ b
-          → (space.revokeMade d s mem (pick b (token.Refused BadField) (token.Token (record { 0 = t }))) .reply .answer ≡ BadField)
-          ↔ (2 ^ 48 ≤ id)
-      go true e = (λ is. omega (arith, ltb-true (2 ^ 48 - 1) id e), λ over. refl)
-      go false e =
-          let l = lookedUp (spaceOf d s mem) t in (
-            λ is. absurd (not-found (λ e. 0) (l .got) (l .visits) is),
-            λ over. absurd (omega (arith, ltb-false (2 ^ 48 - 1) id e)),
-          )
+      let (told, tells) = revoke-told-21 mem s id in (λ e. told e .1 .1, λ over. tells (sound, (there, over)))
 
   -- ---- a record
 

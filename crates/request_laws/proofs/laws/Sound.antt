@@ -10,7 +10,6 @@ use lib.ListN.{length}
 use Rattle.answers.specs.Number.{numberOf}
 use Rattle.answers.specs.declared.Answer.{Answer}
 use Rattle.answers.specs.declared.Answer.the-variants.{BadSpace, BadField, BadWorld}
-use Rattle.base.specs.Choose.{when}
 use Rattle.manager_laws.proofs.laws.CreateTold.{create-entered}
 use Rattle.manager_laws.proofs.laws.DelegateTold.{delegate-told-26}
 use Rattle.manager_laws.proofs.laws.Refused.{check-entered, delete-entered}
@@ -19,7 +18,7 @@ use Rattle.revocation_laws.proofs.laws.Sound as revocation
 use Rattle.revocation_laws.proofs.laws.Told.{held-entered, drain-entered, revoke-capability-entered}
 use Rattle.space_laws.proofs.laws.Refused as told
 use Rattle.space_laws.proofs.laws.Sound as space
-use Rattle.steps.proofs.laws.Cases.{when-by-cases}
+use Rattle.steps.proofs.laws.Cases.{either}
 use Rattle.steps.proofs.laws.Kept.{Kept, kept-refl, kept-trans}
 use Rattle.steps.proofs.laws.Told.{Told}
 use Rattle.steps.specs.Replies.{Left, refuse}
@@ -38,10 +37,6 @@ use Rattle.request_run.proofs.laws.Room.{numbers-good}
 use Rattle.request_run.specs.ByRecord.{memoryAfter, replyAfter}
 use Rattle.request_run.specs.Run.{numbers, quotas, pids, drained, called1To5, called6To10, called11To15, called, judged, answered}
 use Rattle.request_run.specs.RunLaws.{request-small}
-
--- What holds of either way holds of the choice, whatever the test says.
-pub either : {A : Type 0} (P : A → Type 0) (b : Bool) (a rest : A) → P a → P rest → P (when b a rest)
-either P b a rest here later = when-by-cases P a rest b (λ e. here) (λ e. later)
 
 -- A call that keeps the memory sound, with its numbers, its length and the words past the world, and is not given 26.
 pub record Fine (mem : List ℕ) (out : Left Reply) : Type 0 where
