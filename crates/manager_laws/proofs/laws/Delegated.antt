@@ -343,10 +343,10 @@ module _ (mem : List ℕ) (token source target rights : ℕ) where
             let to : target < d .spaces = t .asked .granted .entered .to in
             let sound = base-sound (t .asked .granted) in
             let taking = take-step-kept d r sound .sound in
-            let loggingToken = list-step d taken taking p below in
+            let listing = list-step d taken taking p below in
             register-step d _ (list-step-kept d taken taking p below .sound) (t .id) (objects d r p) (suc p)
-            (rw (loggingToken .same-word 11 (omega arith) (omega arith), same .same-count) room) .same-space target to
-            ∙ loggingToken .same-space target to ∙ take-step d r sound .same-spaces target to
+            (rw (listing .same-word 11 (omega arith) (omega arith), same .same-count) room) .same-space target to
+            ∙ listing .same-space target to ∙ take-step d r sound .same-spaces target to
 
   pub goes : (w : Way) → delegateOut mem token source target rights ≡ outOf w
   unfolding delegateOut
