@@ -1,5 +1,6 @@
 -- What everything above shares: choosing, quantifying and counting below a number, and the words and parts of a list.
 pub mod Choose
+pub mod Cases
 pub mod Below
 pub mod AllLaws
 pub mod Exactly

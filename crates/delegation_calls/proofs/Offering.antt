@@ -9,7 +9,7 @@ use Rattle.base.specs.Choose.{pick}
 use Rattle.manager_calls.specs.Tokens.{tokenOf}
 use Rattle.space.specs.Lookup.{lookedUp}
 use Rattle.space.specs.declared.LookedUp.{LookedUp}
-use Rattle.steps.proofs.laws.Cases.{pick-by-cases}
+use Rattle.base.specs.Cases.{pick-by-cases}
 use Rattle.steps.proofs.laws.ReadyKept.{ready-lookup}
 use Rattle.steps.specs.Ready.{Ready}
 use Rattle.steps.specs.Replies.{done}

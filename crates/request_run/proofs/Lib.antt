@@ -1,3 +1,2 @@
 -- What the proofs of `request_run` share.
-pub mod Chosen
 pub mod laws

@@ -8,7 +8,7 @@ use Rattle.steps.specs.Enter.{enteredWorld}
 use Rattle.steps.specs.Ready.{Fits}
 use Rattle.steps.specs.declared.Entered.{Entered}
 use Rattle.steps.specs.declared.Entered.the-variants.{Good}
-use Rattle.steps.proofs.laws.Cases.{chooses}
+use Rattle.base.specs.Cases.{chooses}
 use Rattle.steps.proofs.Entering.{world-sound, world-ready, world-enters}
 
 pub world-fits : (mem : List ℕ) (r : Entered) → r ≡ enteredWorld mem → (d : Numbers) → r ≡ Good d → Fits d mem

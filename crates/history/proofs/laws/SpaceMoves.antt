@@ -3,7 +3,7 @@ use mathlib.Core.List.{List}
 use Prim.Native.Nat.{ℕ, _^_, _<_}
 use Rattle.answers.specs.declared.Answer.{Answer}
 use Rattle.history.specs.Counts.{given0}
-use Rattle.steps.proofs.laws.Cases.{unless-below}
+use Rattle.base.specs.Cases.{unless-below}
 use Rattle.space_calls.specs.Calls.{insertCallOut, removeOut, incrementOut, clearOut, revokeAllOut, copyOut, allocOut, createOut, revokeMade, revokeOut}
 use Rattle.space_reads.specs.Calls.{lookupOut, lookupEntryOut, checkRightsOut}
 use Rattle.space_laws.proofs.laws.Ways.{made-by-cases, create-by-cases}

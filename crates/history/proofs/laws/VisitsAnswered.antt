@@ -18,7 +18,7 @@ use Rattle.space_calls.specs.Calls as space
 use Rattle.space_reads.specs.Calls as spaceReads
 use Rattle.space_reads.specs.Replies.{foundReply, heldReply, noEntry, entryReply}
 use Rattle.space_reads.specs.declared.EntryReply.{EntryReply}
-use Rattle.steps.proofs.laws.Cases.{either}
+use Rattle.base.specs.Cases.{either}
 use Rattle.steps.proofs.laws.Entered.{space-called}
 use Rattle.steps.specs.Enter.{onSpace}
 use Rattle.steps.specs.Replies.{Left}

@@ -14,7 +14,8 @@ use Rattle.steps.specs.Replies.{Left}
 use Rattle.steps.specs.Steps.{spaceOf, takenId}
 use Rattle.steps.specs.declared.Reply.{Reply}
 use Rattle.steps.specs.declared.Taken.the-variants.{Exhausted}
-use Rattle.steps.proofs.laws.Cases.{answerOf, stated}
+use Rattle.base.specs.Cases.{stated}
+use Rattle.steps.proofs.laws.Cases.{answerOf}
 use Rattle.steps.proofs.laws.Told.{Told}
 use Rattle.world.specs.Numbers.{numbersOf, registeredOf}
 use Rattle.world.specs.Sound.{Sound}

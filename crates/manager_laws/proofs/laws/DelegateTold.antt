@@ -17,7 +17,8 @@ use Rattle.steps.specs.Replies.{Left}
 use Rattle.steps.specs.Steps.{spaceOf, lookupStep, takenId, objects, childrenOf}
 use Rattle.steps.specs.declared.Reply.{Reply}
 use Rattle.steps.specs.declared.Taken.the-variants.{Exhausted}
-use Rattle.steps.proofs.laws.Cases.{answerOf, stated}
+use Rattle.base.specs.Cases.{stated}
+use Rattle.steps.proofs.laws.Cases.{answerOf}
 use Rattle.steps.proofs.laws.Taking.{none-taken}
 use Rattle.table.specs.declared.Got.{Got}
 use Rattle.table.specs.declared.Got.the-variants.{Entry, Nothing}

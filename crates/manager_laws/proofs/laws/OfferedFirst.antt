@@ -18,7 +18,7 @@ use Rattle.space.proofs.laws.Held.{gotAs}
 use Rattle.steps.specs.Replies.{Left}
 use Rattle.steps.specs.Steps.{spaceOf, lookupStep, placeIn}
 use Rattle.steps.specs.declared.Reply.{Reply}
-use Rattle.steps.proofs.laws.Cases.{pick-by-cases}
+use Rattle.base.specs.Cases.{pick-by-cases}
 use Rattle.steps.proofs.laws.OnlySpace.{lookup-step}
 use Rattle.steps.proofs.laws.Ready.{space-of}
 use Rattle.steps.proofs.laws.SpaceSteps.{lookup-step-kept}

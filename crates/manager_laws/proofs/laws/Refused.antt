@@ -14,7 +14,8 @@ use Rattle.space.specs.Lookup.{lookedUp}
 use Rattle.steps.specs.Replies.{Left, WithArea, done, refusal}
 use Rattle.steps.specs.Steps.{spaceOf, placeIn, childrenOf}
 use Rattle.steps.specs.declared.Reply.{Reply}
-use Rattle.steps.proofs.laws.Cases.{answerOf, when-from, either, Exactly, given, not-given}
+use Rattle.base.specs.Cases.{when-from, either}
+use Rattle.steps.proofs.laws.Cases.{answerOf, Exactly, given, not-given}
 use Rattle.steps.proofs.laws.Entered.{world-by-cases}
 use Rattle.steps.proofs.laws.Listed.{into-by-cases}
 use Rattle.steps.proofs.laws.Told.{Told, Inner, told, world-told, told-0, world-told-0, inner, inner-0}

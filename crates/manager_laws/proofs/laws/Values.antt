@@ -6,7 +6,8 @@ use mathlib.Core.Path.{_≡_, refl}
 use Prim.Native.Nat.{ℕ}
 use Rattle.answers.specs.declared.Answer.the-variants.{Done}
 use Rattle.steps.specs.Replies.{WithArea, refusal}
-use Rattle.steps.proofs.laws.Cases.{either, NoValue}
+use Rattle.base.specs.Cases.{either}
+use Rattle.steps.proofs.laws.Cases.{NoValue}
 use Rattle.steps.proofs.laws.Entered.{world-by-cases, space-by-cases}
 use Rattle.steps.proofs.laws.Listed.{into-by-cases}
 use Rattle.manager_calls.specs.Calls.{isValidOut, noStats, statsOut, childrenOut, noTree, treeStatsOut, censusOut}

@@ -32,7 +32,7 @@ use Rattle.space_reads.specs.Calls as spaceReads
 use Rattle.space_reads.specs.Replies.{foundReply}
 use Rattle.space_laws.proofs.laws.Told.{revoke-told-21}
 use Rattle.space_laws.proofs.laws.Ways.{create-by-cases}
-use Rattle.steps.proofs.laws.Cases.{when-by-cases, either}
+use Rattle.base.specs.Cases.{when-by-cases, either}
 use Rattle.steps.proofs.laws.Entered.{space-by-cases}
 use Rattle.steps.specs.Enter.{onSpace}
 use Rattle.steps.specs.Replies.{Left, refuse}

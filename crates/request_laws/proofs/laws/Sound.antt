@@ -18,7 +18,7 @@ use Rattle.revocation_laws.proofs.laws.Sound as revocation
 use Rattle.revocation_laws.proofs.laws.Told.{held-entered, drain-entered, revoke-capability-entered}
 use Rattle.space_laws.proofs.laws.Refused as told
 use Rattle.space_laws.proofs.laws.Sound as space
-use Rattle.steps.proofs.laws.Cases.{either}
+use Rattle.base.specs.Cases.{either}
 use Rattle.steps.proofs.laws.Kept.{Kept, kept-refl, kept-trans}
 use Rattle.steps.proofs.laws.Told.{Told}
 use Rattle.steps.specs.Replies.{Left, refuse}

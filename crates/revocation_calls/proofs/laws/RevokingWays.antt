@@ -14,7 +14,7 @@ use Rattle.revocation_steps.proofs.laws.CascadeSteps.{revokeStep, cascadeQueues
 use Rattle.steps.specs.Replies.{Left, done, refuse}
 use Rattle.steps.specs.Steps.{placeIn, addStep}
 use Rattle.steps.specs.declared.Reply.{Reply}
-use Rattle.steps.proofs.laws.Cases.{pick-by-cases, when-by-cases, when-below}
+use Rattle.base.specs.Cases.{pick-by-cases, when-by-cases, when-below}
 use Rattle.token.specs.Token.{idOf, generationOf}
 use Rattle.world.specs.Numbers.{registeredOf, loggedOf, epochWord}
 use Rattle.world.specs.Sound.{states}

@@ -5,7 +5,7 @@ use mathlib.Core.Path.{_≡_, ap, _∙_}
 use Prim.Native.Nat.{ℕ, _≤_, _<_}
 use lib.Dec.{ltb}
 use Rattle.steps.proofs.WorldCalls.{world-calls}
-use Rattle.steps.proofs.laws.Cases.{not-below, is-below}
+use Rattle.base.specs.Cases.{not-below, is-below}
 use Rattle.steps.specs.Replies.{Left}
 use Rattle.steps.specs.Steps.{placeIn}
 use Rattle.steps.specs.declared.Reply.{Reply}

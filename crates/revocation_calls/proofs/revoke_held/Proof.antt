@@ -6,7 +6,7 @@ use borrow.Author.Needs.{needs}
 use Rattle.space.specs.Lookup.{lookedUp}
 use Rattle.space.specs.declared.LookedUp.{LookedUp}
 use Rattle.steps.proofs.Entering.{space-sound, enters}
-use Rattle.steps.proofs.laws.Cases.{chooses}
+use Rattle.base.specs.Cases.{chooses}
 use Rattle.steps.proofs.laws.SpaceSteps.{lookup-step-kept}
 use Rattle.steps.specs.Enter.{enteredSpace}
 use Rattle.steps.specs.Replies.{Left}

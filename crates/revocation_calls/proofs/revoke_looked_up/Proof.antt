@@ -8,7 +8,7 @@ use Rattle.answers.specs.declared.Answer.the-variants.{InsufficientRights, NotF
 use Rattle.steps.specs.Replies.{Left, replied}
 use Rattle.steps.specs.declared.Reply.{Reply}
 use Rattle.steps.proofs.Leaving.{left-both}
-use Rattle.steps.proofs.laws.Cases.{when-ends, when-goes-on}
+use Rattle.base.specs.Cases.{when-ends, when-goes-on}
 use Rattle.table.specs.declared.CapabilityEntry.{CapabilityEntry}
 use Rattle.table.specs.declared.Got.{Got}
 use Rattle.table.specs.declared.Got.the-variants.{Entry, Nothing}

@@ -17,7 +17,8 @@ use Rattle.revocation_steps.specs.Revocation.{queueFor}
 use Rattle.steps.specs.Enter.{onWorld}
 use Rattle.steps.specs.Replies.{WithArea, intoArea, refusal}
 use Rattle.steps.specs.Steps.{placeIn}
-use Rattle.steps.proofs.laws.Cases.{when-by-cases, Exactly, given, not-given}
+use Rattle.base.specs.Cases.{when-by-cases}
+use Rattle.steps.proofs.laws.Cases.{Exactly, given, not-given}
 use Rattle.steps.proofs.laws.Entered.{world-by-cases, world-called}
 use Rattle.steps.proofs.laws.Listed.{into-by-cases}
 use Rattle.world.specs.Numbers.{numbersOf}

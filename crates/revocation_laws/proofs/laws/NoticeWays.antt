@@ -13,7 +13,7 @@ use Rattle.revocation_steps.specs.Revocation.{queueFor, freeQueue, notifyStep}
 use Rattle.steps.specs.Enter.{onWorld}
 use Rattle.steps.specs.Replies.{Left, WithArea, done, refusal, refuse}
 use Rattle.steps.specs.declared.Reply.{Reply}
-use Rattle.steps.proofs.laws.Cases.{when-by-cases, when-below, when-from}
+use Rattle.base.specs.Cases.{when-by-cases, when-below, when-from}
 use Rattle.steps.proofs.laws.Entered.{world-by-cases}
 use Rattle.world.specs.Numbers.{numbersOf}
 use Rattle.world.specs.Sound.{Sound}

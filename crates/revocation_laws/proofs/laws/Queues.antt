@@ -26,7 +26,7 @@ use Rattle.revocation_steps.proofs.laws.SameQueues.{noticesOf, same-notices}
 use Rattle.steps.specs.Replies.{Left, WithArea, refuse}
 use Rattle.steps.specs.Steps.{lookupStep, placeIn}
 use Rattle.steps.specs.declared.Reply.{Reply}
-use Rattle.steps.proofs.laws.Cases.{pick-by-cases}
+use Rattle.base.specs.Cases.{pick-by-cases}
 use Rattle.steps.proofs.laws.Entered.{world-by-cases}
 use Rattle.steps.proofs.laws.SpaceSteps.{lookup-step-kept}
 use Rattle.token.specs.Token.{idOf}

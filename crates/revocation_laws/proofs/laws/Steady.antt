@@ -17,7 +17,7 @@ use Rattle.revocation_steps.proofs.laws.CascadeSteps.{revokeStep}
 use Rattle.steps.specs.Replies.{Left, WithArea}
 use Rattle.steps.specs.Steps.{lookupStep, addStep}
 use Rattle.steps.specs.declared.Reply.{Reply}
-use Rattle.steps.proofs.laws.Cases.{pick-by-cases}
+use Rattle.base.specs.Cases.{pick-by-cases}
 use Rattle.steps.proofs.laws.Entered.{world-by-cases}
 use Rattle.steps.proofs.laws.SpaceSteps.{lookup-step-kept}
 use Rattle.world.specs.Numbers.{numbersOf, registeredOf, epochWord}

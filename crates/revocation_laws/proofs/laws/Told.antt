@@ -14,7 +14,8 @@ use Rattle.base.specs.Choose.{when}
 use Rattle.steps.specs.Replies.{Left, WithArea, refuse, intoArea}
 use Rattle.steps.specs.Steps.{placeIn}
 use Rattle.steps.specs.declared.Reply.{Reply}
-use Rattle.steps.proofs.laws.Cases.{answerOf, either}
+use Rattle.base.specs.Cases.{either}
+use Rattle.steps.proofs.laws.Cases.{answerOf}
 use Rattle.steps.proofs.laws.Listed.{into-by-cases}
 use Rattle.steps.proofs.laws.Told.{Told, Inner, told-26, told-20, told-own, world-told, world-told-0, inner, inner-0}
 use Rattle.token.specs.Token.{idOf}

@@ -19,7 +19,7 @@ use Rattle.registry.specs.HoldersLaws.{place-holds, place-is}
 use Rattle.registry.specs.PlaceLists.{AllBelow}
 use Rattle.steps.specs.Replies.{WithArea}
 use Rattle.steps.specs.Steps.{placeIn, ChildOf}
-use Rattle.steps.proofs.laws.Cases.{either}
+use Rattle.base.specs.Cases.{either}
 use Rattle.steps.proofs.laws.Entered.{world-by-cases}
 use Rattle.steps.proofs.laws.Listed.{into-by-cases}
 use Rattle.world.specs.Numbers.{numbersOf, registeredOf}

@@ -15,7 +15,7 @@ use Rattle.space.specs.Lookup.{lookedUp}
 use Rattle.steps.specs.Replies.{Left, WithArea, replied, done, refusal, refuse, intoArea}
 use Rattle.steps.specs.Steps.{spaceOf, lookupStep, placeIn}
 use Rattle.steps.specs.declared.Reply.{Reply}
-use Rattle.steps.proofs.laws.Cases.{either}
+use Rattle.base.specs.Cases.{either}
 use Rattle.steps.proofs.laws.Entered.{world-by-cases}
 use Rattle.steps.proofs.laws.Listed.{into-by-cases}
 use Rattle.table.specs.declared.CapabilityEntry.{CapabilityEntry}

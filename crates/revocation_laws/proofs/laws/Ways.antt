@@ -18,7 +18,7 @@ use Rattle.space.specs.declared.LookedUp.{LookedUp}
 use Rattle.steps.specs.Replies.{Left, replied, refuse}
 use Rattle.steps.specs.Steps.{spaceOf, lookupStep, placeIn}
 use Rattle.steps.specs.declared.Reply.{Reply}
-use Rattle.steps.proofs.laws.Cases.{when-by-cases, when-below, unless-below}
+use Rattle.base.specs.Cases.{when-by-cases, when-below, unless-below}
 use Rattle.steps.proofs.laws.Entered.{world-by-cases, space-by-cases, space-called}
 use Rattle.table.specs.declared.CapabilityEntry.{CapabilityEntry}
 use Rattle.table.specs.declared.Got.{Got}

@@ -14,7 +14,7 @@ use Rattle.space_calls.specs.Calls.{insertCallOut, removeOut, incrementOut, cle
 use Rattle.space_reads.specs.Calls.{lookupOut, lookupEntryOut, checkRightsOut}
 use Rattle.steps.specs.Replies.{Left}
 use Rattle.steps.specs.declared.Reply.{Reply}
-use Rattle.steps.proofs.laws.Cases.{unless-below}
+use Rattle.base.specs.Cases.{unless-below}
 use Rattle.steps.proofs.laws.Entered.{world-by-cases, space-by-cases}
 use Rattle.steps.proofs.laws.OnlyIds.{OnlyIds, only-no-id, take-step}
 use Rattle.steps.proofs.laws.OnlySpace.{OnlySpace, only-refl, only-trans, lookup-step, next-step, insert-step, remove-step, clear-step, copy-step}

@@ -31,7 +31,7 @@ use Rattle.steps.specs.Replies.{Left, replied, done}
 use Rattle.steps.specs.declared.Facts.{Facts}
 use Rattle.steps.specs.declared.Reply.{Reply}
 use Rattle.space_reads.specs.declared.FactsReply.{FactsReply}
-use Rattle.steps.proofs.laws.Cases.{unless-below}
+use Rattle.base.specs.Cases.{unless-below}
 use Rattle.steps.proofs.laws.Entered.{done-made, space-called}
 use Rattle.steps.proofs.laws.OnlySpace.{lookup-step, next-step, clear-step, copy-step}
 

@@ -31,7 +31,8 @@ use Rattle.space_reads.specs.Replies.{foundReply, heldReply, entryReply, nthRep
 use Rattle.space_reads.specs.declared.EntryReply.{EntryReply}
 use Rattle.steps.specs.declared.Reply.{Reply}
 use Rattle.space_reads.specs.declared.FactsReply.{FactsReply}
-use Rattle.steps.proofs.laws.Cases.{answerOf, given, not-given, either, unless-below}
+use Rattle.base.specs.Cases.{either, unless-below}
+use Rattle.steps.proofs.laws.Cases.{answerOf, given, not-given}
 use Rattle.steps.proofs.laws.Entered.{space-by-cases}
 use Rattle.steps.proofs.laws.Told.{Told, Inner, told-26, told-20, told-own, told, world-told, inner, inner-0}
 use Rattle.space_laws.proofs.laws.Ways.{ownToken, made-by-cases, create-by-cases}

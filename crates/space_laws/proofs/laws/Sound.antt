@@ -2,7 +2,7 @@
 use mathlib.Core.List.{List}
 use Prim.Native.Nat.{ℕ, _^_, _<_}
 use Rattle.steps.specs.Steps.{spaceOf, newEntry}
-use Rattle.steps.proofs.laws.Cases.{unless-below}
+use Rattle.base.specs.Cases.{unless-below}
 use Rattle.steps.proofs.laws.Kept.{kept-refl, kept-trans}
 use Rattle.steps.proofs.laws.SpaceSteps.{lookup-step-kept, next-step-kept, insert-step-kept, remove-step-kept, clear-step-kept, copy-step-kept}
 use Rattle.steps.proofs.laws.TakeStep.{take-step-kept}

@@ -18,7 +18,8 @@ use Rattle.steps.specs.Steps.{spaceOf, takenId, takeStep, newEntry}
 use Rattle.steps.specs.declared.Reply.{Reply}
 use Rattle.steps.specs.declared.Taken.{Taken}
 use Rattle.steps.specs.declared.Taken.the-variants.{Id, Exhausted}
-use Rattle.steps.proofs.laws.Cases.{answerOf, given, not-given, when-from, unless-below}
+use Rattle.base.specs.Cases.{when-from, unless-below}
+use Rattle.steps.proofs.laws.Cases.{answerOf, given, not-given}
 use Rattle.steps.proofs.laws.Entered.{world-by-cases}
 use Rattle.steps.proofs.laws.Exhausted.{exhausted-exactly}
 use Rattle.steps.proofs.laws.OnlyIds.{take-step}

@@ -16,7 +16,7 @@ use Rattle.space.proofs.laws.Insert.{insert-by-cases, zero-is-done}
 use Rattle.steps.specs.Enter.{onSpace}
 use Rattle.steps.specs.Steps.{spaceOf, isEntry, insertStep, removeStep, takeStep, newEntry}
 use Rattle.steps.proofs.ChangingEntries.{refused-insert, remove-absent}
-use Rattle.steps.proofs.laws.Cases.{either}
+use Rattle.base.specs.Cases.{either}
 use Rattle.steps.proofs.laws.Taking.{take-by-cases, none-taken}
 use Rattle.table.specs.Walk.{gotAt}
 use Rattle.table.specs.declared.CapabilityEntry.{CapabilityEntry}

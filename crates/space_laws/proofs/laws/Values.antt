@@ -16,7 +16,8 @@ use Rattle.steps.specs.Steps.{spaceOf, takenId, newEntry, insertReply}
 use Rattle.steps.specs.declared.Reply.{Reply}
 use Rattle.steps.specs.declared.Taken.{Taken}
 use Rattle.steps.specs.declared.Taken.the-variants.{Id, Exhausted}
-use Rattle.steps.proofs.laws.Cases.{either, NoValue}
+use Rattle.base.specs.Cases.{either}
+use Rattle.steps.proofs.laws.Cases.{NoValue}
 use Rattle.steps.proofs.laws.Entered.{world-by-cases, space-by-cases}
 use Rattle.table.specs.Copy.{nthOf}
 use Rattle.table.specs.Insert.{liveEntries}

@@ -14,7 +14,7 @@ use Rattle.steps.specs.Steps.{spaceOf, newEntry, takenId, takeStep}
 use Rattle.steps.specs.declared.Reply.{Reply}
 use Rattle.steps.specs.declared.Taken.{Taken}
 use Rattle.steps.specs.declared.Taken.the-variants.{Id, Exhausted}
-use Rattle.steps.proofs.laws.Cases.{pick-by-cases}
+use Rattle.base.specs.Cases.{pick-by-cases}
 use Rattle.steps.proofs.laws.Entered.{space-by-cases}
 use Rattle.steps.proofs.laws.TakeStep.{taken-free}
 use Rattle.steps.proofs.laws.Taking.{none-taken}

@@ -9,7 +9,7 @@ use Rattle.answers.specs.declared.Answer.the-variants.{BadField}
 use Rattle.base.specs.Choose.{when-yes, when-no}
 use Rattle.base.specs.Written.{written}
 use Rattle.steps.specs.Replies.{WithArea, done, refusal, intoArea}
-use Rattle.steps.proofs.laws.Cases.{when-below}
+use Rattle.base.specs.Cases.{when-below}
 
 module _ (xs area : List ℕ) where
   pub into-by-cases :

@@ -1,7 +1,7 @@
 -- Entered, the target's number is looked at, then it is delegated.
 use borrow.Author.Needs.{needs}
 use Rattle.steps.proofs.Entering.{enters}
-use Rattle.steps.proofs.laws.Cases.{chooses}
+use Rattle.base.specs.Cases.{chooses}
 use Rattle.delegation_calls.specs.Delegation.{delegateOut}
 use Rattle.delegation_calls.proofs.delegation.delegate.Statement.{statement}
 use Rattle.delegation_calls.proofs.delegation.delegate.Tie as tie

@@ -6,7 +6,7 @@ use mathlib.Core.Path.{_≡_, sym, ap, _∙_}
 use Prim.Native.Nat.{ℕ, _<_, _≤_}
 use lib.Dec.{ltb}
 use Rattle.manager_calls.specs.Tokens.{current}
-use Rattle.steps.proofs.laws.Cases.{not-below, is-below, chooses}
+use Rattle.base.specs.Cases.{not-below, is-below, chooses}
 use Rattle.steps.specs.Replies.{Left}
 use Rattle.steps.specs.Steps.{placeIn}
 use Rattle.steps.specs.declared.Reply.{Reply}

@@ -4,7 +4,7 @@ use mathlib.Core.List.{List}
 use mathlib.Core.Path.{_≡_, sym, ap₂, _∙_}
 use Prim.Native.Nat.{ℕ}
 use Rattle.steps.proofs.Entering.{space-ready, enters}
-use Rattle.steps.proofs.laws.Cases.{chooses}
+use Rattle.base.specs.Cases.{chooses}
 use Rattle.steps.proofs.laws.ReadyKept.{ready-take, take-room}
 use Rattle.steps.specs.Replies.{Left}
 use Rattle.steps.specs.Steps.{takenId, takeStep}

@@ -8,7 +8,7 @@ use lib.Dec.{ltb}
 use Rattle.answers.specs.declared.Answer.the-variants.{NotFound, RecycleFull}
 use Rattle.base.specs.Choose.{when}
 use Rattle.steps.proofs.Entering.{world-call, world-enters}
-use Rattle.steps.proofs.laws.Cases.{chooses}
+use Rattle.base.specs.Cases.{chooses}
 use Rattle.steps.specs.Enter.{enteredWorld}
 use Rattle.steps.specs.Replies.{Left, done, refuse}
 use Rattle.steps.specs.Steps.{placeIn, unregisterStep, recycleStep, addStep}

@@ -11,7 +11,7 @@ use Rattle.registry.specs.Children.{childIds}
 use Rattle.registry.specs.ChildrenLaws.{child-ids-length}
 use Rattle.steps.proofs.Entering.{world-ready, world-enters}
 use Rattle.steps.proofs.Leaving.{area-is}
-use Rattle.steps.proofs.laws.Cases.{chooses}
+use Rattle.base.specs.Cases.{chooses}
 use Rattle.steps.proofs.laws.Listed.{into-short, into-fits}
 use Rattle.steps.specs.Replies.{done, refusal, intoArea}
 use Rattle.steps.specs.Steps.{placeIn, childrenOf}

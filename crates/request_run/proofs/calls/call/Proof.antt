@@ -1,6 +1,6 @@
 -- `request_run::calls::call` meets its contract: the op's range decides the function that has its call.
 use Rattle.request_run.specs.Run.{called}
-use Rattle.request_run.proofs.Chosen.{chosen}
+use Rattle.request.proofs.Chosen.{chosen}
 use Rattle.request_run.proofs.calls.call.Statement.{statement}
 use Rattle.request_run.proofs.calls.call.Tie as tie
 

@@ -1,6 +1,6 @@
 -- `request_run::calls::call_11_to_15` meets its contract: each test decides one choice, and what is called is what is chosen.
 use Rattle.request_run.specs.Run.{called11To15}
-use Rattle.request_run.proofs.Chosen.{chosen}
+use Rattle.request.proofs.Chosen.{chosen}
 use Rattle.request_run.proofs.calls.call_11_to_15.Statement.{statement}
 use Rattle.request_run.proofs.calls.call_11_to_15.Tie as tie
 

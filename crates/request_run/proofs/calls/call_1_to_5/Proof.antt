@@ -1,6 +1,6 @@
 -- `request_run::calls::call_1_to_5` meets its contract: each test decides one choice, and what is called is what is chosen.
 use Rattle.request_run.specs.Run.{called1To5}
-use Rattle.request_run.proofs.Chosen.{chosen}
+use Rattle.request.proofs.Chosen.{chosen}
 use Rattle.request_run.proofs.calls.call_1_to_5.Statement.{statement}
 use Rattle.request_run.proofs.calls.call_1_to_5.Tie as tie
 

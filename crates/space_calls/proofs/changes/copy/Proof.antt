@@ -3,7 +3,7 @@ use borrow.Author.Needs.{needs}
 use mathlib.Core.Path.{ap}
 use Rattle.answers.specs.declared.Answer.the-variants.{Done}
 use Rattle.steps.proofs.Entering.{enters}
-use Rattle.steps.proofs.laws.Cases.{chooses}
+use Rattle.base.specs.Cases.{chooses}
 use Rattle.steps.specs.Replies.{replied}
 use Rattle.steps.specs.declared.Copied.{Copied}
 use Rattle.space_calls.specs.Calls.{copyOut}

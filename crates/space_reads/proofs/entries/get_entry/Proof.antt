@@ -1,7 +1,7 @@
 -- Entered, an id too large is refused, else its entry is answered.
 use borrow.Author.Needs.{needs}
 use Rattle.steps.proofs.Entering.{enters}
-use Rattle.steps.proofs.laws.Cases.{chooses}
+use Rattle.base.specs.Cases.{chooses}
 use Rattle.space_reads.specs.Calls.{getEntryOut}
 use Rattle.space_reads.proofs.Replying.{replies}
 use Rattle.space_reads.proofs.entries.get_entry.Statement.{statement}

@@ -2,6 +2,6 @@
 -- it does not the chain goes on.
 use borrow.Author.Needs.{needs}
 use borrow.Author.Tests.{eq-eqb, ne-eqb, lt-ltb, le-ltb}
-use Rattle.steps.proofs.laws.Cases.{when-ends, when-goes-on}
+use Rattle.base.specs.Cases.{when-ends, when-goes-on}
 
 pub ruleset chosen = (needs, when-ends, when-goes-on, eq-eqb, ne-eqb, lt-ltb, le-ltb)

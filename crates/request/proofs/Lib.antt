@@ -1,0 +1,2 @@
+-- What the proofs of `request` share, and those of `request_run` take too.
+pub mod Chosen
