@@ -95,31 +95,32 @@ module _ (mem : List ℕ) (token time : ℕ) (listed : List ℕ) (P : List ℕ �
     same-place : Sound mem → s < d .spaces → placeIn d looked (idOf token) ≡ place
     same-place sound there = rw (same-registered d mem sound s there token, same-registry d mem sound s there token) refl
 
+    -- So the same two ways, by whether the id is registered.
+    held-either-given :
+        (Sound mem → s < d .spaces → place < registeredOf looked → Given P (revoking d place time listed looked))
+        → (Sound mem → s < d .spaces → registeredOf looked ≤ place → Given P (loggingToken d token looked))
+        → Given P (revokeHeldOut mem s token time listed)
+    held-either-given inside outside =
+        held-made
+        (λ sound there.
+        let same = same-place sound there in
+        revoking-token-by-cases d looked (Given P) token time listed
+        (λ l. rw same (inside sound there (omega (arith, same)))) (λ l. outside sound there (omega (arith, same))))
+
     pub held-given :
         place < registeredOf mem
         → (Sound mem → s < numbersOf mem .spaces → place < registeredOf (lookupStep (numbersOf mem) s token mem)
         → Given P (revoking (numbersOf mem) place time listed (lookupStep (numbersOf mem) s token mem)))
         → Given P (revokeHeldOut mem s token time listed)
-    held-given inside made =
-        held-made
-        (λ sound there.
-        let count = same-registered d mem sound s there token in
-        let same = same-place sound there in
-        revoking-token-by-cases d looked (Given P) token time listed
-        (λ _. rw same (made sound there (omega (arith, count))))
-        (λ outside. absurd (omega (arith, count, same))))
+    held-given inside made = held-either-given made (λ sound there none. absurd (omega (arith, same-registered d mem sound s there token)))
 
     pub held-listed :
         registeredOf mem ≤ place
         → (Sound mem → s < numbersOf mem .spaces → Given P (loggingToken (numbersOf mem) token (lookupStep (numbersOf mem) s token mem)))
         → Given P (revokeHeldOut mem s token time listed)
     held-listed outside made =
-        held-made
-        (λ sound there.
-        let count = same-registered d mem sound s there token in
-        let same = same-place sound there in
-        revoking-token-by-cases d looked (Given P) token time listed (λ inside. absurd (omega (arith, count, same)))
-        (λ _. made sound there))
+        held-either-given (λ sound there some. absurd (omega (arith, same-registered d mem sound s there token)))
+        (λ sound there none. made sound there)
 
 -- A held revoke is given 0 only where the memory is sound and the space is there.
 pub held-done :

@@ -6,13 +6,13 @@ use mathlib.Core.Path.{_≡_, refl, sym, ap, _∙_}
 use Prim.Native.Nat.{ℕ, _+_, _^_, _≤_, _<_}
 use native.Mathlib.Omega.{arith}
 use borrow.Author.Tests.{not-true, not-false, le-ltb}
-use lib.Dec.{eqb, ltb}
+use lib.Dec.{eqb}
 use lib.ListN.{length}
 use Rattle.answers.specs.Number.{numberOf}
 use Rattle.answers.specs.declared.Answer.{Answer}
 use Rattle.answers.specs.declared.Answer.the-variants.{Done, InvalidCapability, InsufficientRights, NotFound, BadSpace, BadField, BadWorld}
 use Rattle.base.specs.Below.{one}
-use Rattle.base.specs.Choose.{when, when-no}
+use Rattle.base.specs.Choose.{when-no}
 use Rattle.space.specs.Lookup.{lookedUp}
 use Rattle.space.specs.declared.LookedUp.{LookedUp}
 use Rattle.steps.specs.Replies.{Left, replied, refuse}
@@ -91,12 +91,6 @@ module _ (mem : List ℕ) (time : ℕ) (listed : List ℕ) (P : Left Reply → T
   abbrev d : Numbers
   d = numbersOf mem
 
-  -- 21 for a process list of over 32.
-  few-by-cases :
-      (out : Left Reply) → (32 < length listed → P (refuse mem BadField)) → (length listed ≤ 32 → P out)
-      → P (when (ltb 32 (length listed)) (refuse mem BadField) out)
-  few-by-cases out many few = when-below P _ _ 32 (length listed) many few
-
   pub revoke-by-cases :
       (token : ℕ) → (Sound mem → 32 < length listed → P (refuse mem BadField))
       → (Sound mem → length listed ≤ 32 → registeredOf mem ≤ placeIn (numbersOf mem) mem (idOf token) → P (refuse mem InvalidCapability))
@@ -107,7 +101,7 @@ module _ (mem : List ℕ) (time : ℕ) (listed : List ℕ) (P : Left Reply → T
   revoke-by-cases token many outside inside =
       world-by-cases P (refuse mem) mem _ bad
       (λ sound.
-      few-by-cases _ (many sound)
+      when-below P _ _ 32 (length listed) (many sound)
       (λ few. unless-below P _ _ (placeIn d mem (idOf token)) (registeredOf mem) (outside sound few) (inside sound few)))
 
   pub revoke-capability-by-cases :
@@ -116,7 +110,7 @@ module _ (mem : List ℕ) (time : ℕ) (listed : List ℕ) (P : Left Reply → T
       → P (revokeCapabilityOut mem token time listed)
   unfolding revokeCapabilityOut
   revoke-capability-by-cases token many few =
-      world-by-cases P (refuse mem) mem _ bad (λ sound. few-by-cases _ (many sound) (few sound))
+      world-by-cases P (refuse mem) mem _ bad (λ sound. when-below P _ _ 32 (length listed) (many sound) (few sound))
 
   module _ (s token : ℕ) where
     abbrev found : LookedUp
@@ -138,7 +132,7 @@ module _ (mem : List ℕ) (time : ℕ) (listed : List ℕ) (P : Left Reply → T
     held-by-cases far many absent without with′ =
         space-by-cases P (refuse mem) mem _ bad s far
         (λ sound there.
-        few-by-cases _ (many sound there)
+        when-below P _ _ 32 (length listed) (many sound there)
         (λ few.
         revoking-held-by-cases d token time listed looked P (found .got) (found .visits)
         (absent sound there few) (without sound there few) (with′ sound there few)))
@@ -152,7 +146,8 @@ module _ (mem : List ℕ) (time : ℕ) (listed : List ℕ) (P : Left Reply → T
   batch-by-cases tokens over many few =
       world-by-cases P (refuse mem) mem _ bad
       (λ sound.
-      when-below P _ _ 65535 (length tokens) (over sound) (λ fits. few-by-cases _ (many sound fits) (few sound fits)))
+      when-below P _ _ 65535 (length tokens) (over sound)
+      (λ fits. when-below P _ _ 32 (length listed) (many sound fits) (few sound fits)))
 
 -- What they come to with good arguments.
 module _ (mem : List ℕ) (sound : Sound mem) (time : ℕ) (listed : List ℕ) (few : length listed ≤ 32) where
