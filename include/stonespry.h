@@ -1,4 +1,5 @@
-/* Stonespry for C99 and C++: every function of libhost.a, the crates `host_tokens` and `host`, proved. tools/header holds it to them.
+/* Stonespry for C99 and C++: every function of libhost.a, the crates `host_tokens`, `host_spaces` and `host`, proved. tools/header holds it
+ * to them.
  *
  * The world. All state is one area of 64-bit words that the program lends to each call: `mem`, and `mem_len`, its length in words.
  * STONESPRY_LENGTH says how many words a world needs; stonespry_open makes one. There is nothing else to set up or to free, two areas

@@ -1,4 +1,4 @@
-//! The port: the look over the memory, as the crate `host` exports it.
+//! The port: the look over the memory, as the crate `host_spaces` exports it.
 
 #[link(name = "host", kind = "static")]
 unsafe extern "C" {

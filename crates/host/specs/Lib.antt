@@ -1,7 +1,3 @@
--- What the contracts of `host` cite beside those of the crates that it exports, and the laws by which they are proved.
-pub mod Worlds
-pub mod Spaces
-pub mod Replies
-pub mod RepliesLaws
+-- What the contracts of `host` cite beside those of the crates that it exports.
 pub mod Manager
 pub mod Revocation

@@ -4,10 +4,10 @@ ghost use mathlib.Core.Path.{_≡_};
 ghost use Rattle.delegation_calls.specs.Delegation.{delegateOut};
 ghost use Rattle.manager_calls.specs.Calls.{createOut, deleteOut, checkOut, isValidOut, statsOut, childrenOut, treeStatsOut, censusOut};
 ghost use Rattle.host.specs.Manager.{managerAnswer, treeAnswer};
-ghost use Rattle.host.specs.Replies.{callAnswer, told, areaAnswer};
-use super::replies::CallAnswer;
-use super::replies::answered;
+ghost use Rattle.host_spaces.specs.Replies.{callAnswer, told, areaAnswer};
 use delegation_calls::delegate;
+use host_spaces::replies::CallAnswer;
+use host_spaces::replies::answered;
 use token::CapabilityToken;
 use token::Rights;
 

@@ -5,10 +5,10 @@ ghost use mathlib.Core.Path.{_≡_};
 ghost use Rattle.notification_calls.specs.Calls.{notifyOut, drainOut, peekOut, notificationCountOut, cleanupOut, notificationStatsOut};
 ghost use Rattle.revocation_calls.specs.Calls.{revokeOut, revokeCapabilityOut, revokeHeldOut, revokeBatchOut};
 ghost use Rattle.revocation_reads.specs.Calls.{isRevokedOut, epochOut, descendantsOut, reasonOut};
-ghost use Rattle.host.specs.Replies.{callAnswer, told, areaAnswer};
+ghost use Rattle.host_spaces.specs.Replies.{callAnswer, told, areaAnswer};
 ghost use Rattle.host.specs.Revocation.{queuesAnswer};
-use super::replies::CallAnswer;
-use super::replies::answered;
+use host_spaces::replies::CallAnswer;
+use host_spaces::replies::answered;
 use token::CapabilityToken;
 
 // The answer's number, how many processes have notifications, and how many notifications there are.

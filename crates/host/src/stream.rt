@@ -1,9 +1,9 @@
 // The request stream for a host: a whole run over records that the host has read, on memory that it lends, as the program `stream` does it.
 ghost use mathlib.Core.Path.{_≡_};
 ghost use Rattle.request_run.specs.Run.{runOut};
-ghost use Rattle.host.specs.Replies.{told, areaAnswer};
-use super::replies::CallAnswer;
-use super::replies::answered;
+ghost use Rattle.host_spaces.specs.Replies.{told, areaAnswer};
+use host_spaces::replies::CallAnswer;
+use host_spaces::replies::answered;
 
 // The value is how many bytes of `lines` are written.
 #[no_mangle]

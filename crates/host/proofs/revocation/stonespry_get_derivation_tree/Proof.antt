@@ -1,6 +1,6 @@
 -- `stonespry_get_derivation_tree` meets its contract: the call's reply, seen by `answered`, and the area.
 use borrow.Author.Needs.{needs}
-use Rattle.host.specs.RepliesLaws.{seen-so}
+use Rattle.host_spaces.specs.RepliesLaws.{seen-so}
 use Rattle.host.proofs.revocation.stonespry_get_derivation_tree.Statement.{statement}
 use Rattle.host.proofs.revocation.stonespry_get_derivation_tree.Tie as tie
 

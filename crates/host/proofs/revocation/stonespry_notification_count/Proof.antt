@@ -1,7 +1,7 @@
 -- `stonespry_notification_count` meets its contract: the call's reply, seen by `answered`.
 use mathlib.Core.Path.{ap, _∙_}
 use borrow.Author.Needs.{needs}
-use Rattle.host.specs.Replies.{callAnswer}
+use Rattle.host_spaces.specs.Replies.{callAnswer}
 use Rattle.host.proofs.revocation.stonespry_notification_count.Statement.{statement}
 use Rattle.host.proofs.revocation.stonespry_notification_count.Tie as tie
 

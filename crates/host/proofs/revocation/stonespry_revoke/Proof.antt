@@ -1,6 +1,6 @@
 -- `stonespry_revoke` meets its contract: the call's reply, seen by `answered`, and its memory.
 use borrow.Author.Needs.{needs}
-use Rattle.host.specs.RepliesLaws.{seen-so}
+use Rattle.host_spaces.specs.RepliesLaws.{seen-so}
 use Rattle.host.proofs.revocation.stonespry_revoke.Statement.{statement}
 use Rattle.host.proofs.revocation.stonespry_revoke.Tie as tie
 

@@ -1,6 +1,6 @@
 -- `stonespry_revoke_batch` meets its contract: the call's reply, seen by `answered`, and its memory.
 use borrow.Author.Needs.{needs}
-use Rattle.host.specs.RepliesLaws.{seen-so}
+use Rattle.host_spaces.specs.RepliesLaws.{seen-so}
 use Rattle.host.proofs.revocation.stonespry_revoke_batch.Statement.{statement}
 use Rattle.host.proofs.revocation.stonespry_revoke_batch.Tie as tie
 

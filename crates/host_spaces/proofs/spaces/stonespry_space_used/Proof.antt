@@ -1,0 +1,11 @@
+-- `stonespry_space_used` meets its contract: the call's reply, seen by `answered`.
+use mathlib.Core.Path.{ap, _∙_}
+use borrow.Author.Needs.{needs}
+use Rattle.host_spaces.specs.Replies.{callAnswer}
+use Rattle.host_spaces.proofs.spaces.stonespry_space_used.Statement.{statement}
+use Rattle.host_spaces.proofs.spaces.stonespry_space_used.Tie as tie
+
+pub stonespry-space-used-spec : {M : Type 1} → statement M
+stonespry-space-used-spec =
+    tie.close
+    (tie.spec (λ c κs. search needs) (λ c κs. search needs) (λ c. search (_∙_, ap callAnswer)))
