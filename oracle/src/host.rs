@@ -1,5 +1,5 @@
-//! The port as the crates `host_spaces` and `host` export it: opening, look, a run of the request stream, and the calls of a space,
-//! of the manager and of revocation.
+//! The port as the crates `host_spaces` and `host` export it: opening, look, a run of the request stream, and the
+//! calls of a space, of the manager and of revocation.
 //!
 //! The declarations keep to what tools/native says holds on both processors: a reply of more than 16 bytes is written
 //! where the first parameter says.

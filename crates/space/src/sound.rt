@@ -19,5 +19,5 @@ pub fn is_sound(sp: &[u64], most: usize) -> bool
     if most < sp[QUOTA] as usize {
         return false;
     }
-    table::is_sound(&sp[TABLE..], table_of(sp), most)
+    table_look::is_sound(&sp[TABLE..], table_of(sp), most)
 }

@@ -14,12 +14,13 @@ use Rattle.steps.specs.Steps.{spaceOf, newEntry, nextStep, insertStep, insertRe
 use Rattle.steps.specs.declared.Taken.{Taken}
 use Rattle.steps.specs.declared.Taken.the-variants.{Id, Exhausted}
 use Rattle.table.specs.declared.CapabilityEntry.{CapabilityEntry}
+use Rattle.table.specs.declared.Got.{Got}
 use Rattle.token.specs.Token.{made}
 use Rattle.token.specs.declared.capability.Made.{Made}
 use Rattle.token.specs.declared.capability.Made.the-variants.{Token, Refused}
 use Rattle.world.specs.declared.Numbers.{Numbers}
 use Rattle.steps.specs.Replies.{Left, replied, done, refusal, refuse}
-use Rattle.space_reads.specs.Replies.{objectReply, goneReply}
+use Rattle.space_reads.specs.Replies.{foundReply}
 use Rattle.steps.specs.declared.Reply.{Reply}
 
 -- ---- entries
@@ -32,7 +33,14 @@ inserting d s e value mem =
 unfoldable pub insertCallOut : List ℕ → ℕ → ℕ → ℕ → ℕ → Left Reply
 insertCallOut mem s token object rights = onSpace (refuse mem) mem s (λ d. inserting d s (newEntry token object rights) 0 mem)
 
--- Only exactly the token removes its entry, whose object is the value.
+-- An entry that left: its object is the value, or nothing is.
+abbrev pub objectReply : Got → ℕ → Reply
+objectReply got visits = foundReply (λ e. e .object) got visits
+
+abbrev pub goneReply : Got → ℕ → Reply
+goneReply got visits = foundReply (λ e. 0) got visits
+
+-- Only exactly the token removes its entry.
 unfoldable pub removeOut : List ℕ → ℕ → ℕ → Left Reply
 removeOut mem s token =
     onSpace (refuse mem) mem s (λ d.

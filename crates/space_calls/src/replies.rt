@@ -1,6 +1,6 @@
 // The answers of the calls that remove an entry, from what the steps found.
 ghost use mathlib.Core.Path.{_≡_};
-ghost use Rattle.space_reads.specs.Replies.{objectReply, goneReply};
+ghost use Rattle.space_calls.specs.Calls.{objectReply, goneReply};
 use answers::Answer;
 use space::LookedUp;
 use steps::Reply;

@@ -25,12 +25,6 @@ foundReply value Nothing visits = replied NotFound 0 visits
 abbrev pub rightsReply : Got → ℕ → Reply
 rightsReply got visits = foundReply (λ e. e .rights .0) got visits
 
-abbrev pub objectReply : Got → ℕ → Reply
-objectReply got visits = foundReply (λ e. e .object) got visits
-
-abbrev pub goneReply : Got → ℕ → Reply
-goneReply got visits = foundReply (λ e. 0) got visits
-
 -- Whether the token is held with the rights: 1 or 0.
 abbrev pub heldReply : ℕ → Got → ℕ → Reply
 heldReply required (Entry e) visits = replied Done (one (holds (e .rights .0) required)) visits

@@ -5,7 +5,6 @@
 mod copy;
 mod insert;
 mod remove;
-mod sound;
 mod walk;
 mod words;
 
@@ -16,14 +15,15 @@ pub use insert::id_of;
 pub use insert::insert_new;
 pub use insert::slots_for;
 pub use remove::remove_at;
-pub use sound::is_sound;
-pub use sound::one_of;
 use token::CapabilityToken;
 use token::Rights;
 pub use walk::find;
 pub use walk::get;
 pub use words::FULL;
+pub use words::REMOVED;
 pub use words::entry_at;
+pub use words::id_at;
+pub use words::kind_at;
 pub use words::slot_at;
 
 // A single capability entry.

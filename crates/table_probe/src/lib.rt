@@ -19,9 +19,9 @@ use table::find;
 use table::gather;
 use table::get;
 use table::insert_new;
-use table::is_sound;
 use table::nth_entry;
 use table::remove_at;
+use table_look::is_sound;
 use token::CapabilityToken;
 use token::Rights;
 

@@ -76,7 +76,7 @@ fn live_ids(words: &[u64], slots: usize, ids: &mut [u64; 512]) -> usize
         let entry = table::entry_at(words, i);
         let capability = entry.capability;
         ids[n] = capability.id();
-        n += table::one_of(words, i, table::FULL);
+        n += table_look::one_of(words, i, table::FULL);
         i += 1;
     }
     n

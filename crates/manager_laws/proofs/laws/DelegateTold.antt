@@ -5,7 +5,7 @@ use mathlib.Core.Bool.{Bool, true, false}
 use mathlib.Core.List.{List}
 use mathlib.Core.Logic.{_↔_, _≢_, _⊎_, inl, inr, ⊎-elim, by-cases}
 use mathlib.Core.Path.{_≡_, refl, sym, ap, subst, _∙_}
-use Prim.Native.Nat.{ℕ, suc, _^_, _≤_, _<_}
+use Prim.Native.Nat.{ℕ, suc, _≤_, _<_}
 use native.Mathlib.Decide.{decLt}
 use native.Mathlib.Omega.{arith}
 use lib.Dec.{eqb}
@@ -22,7 +22,7 @@ use Rattle.steps.proofs.laws.Cases.{answerOf}
 use Rattle.steps.proofs.laws.Taking.{none-taken}
 use Rattle.table.specs.declared.Got.{Got}
 use Rattle.table.specs.declared.Got.the-variants.{Entry, Nothing}
-use Rattle.token.specs.Rights.{holds}
+use Rattle.token.specs.Rights.{GRANT, holds}
 use Rattle.table.specs.declared.CapabilityEntry.{CapabilityEntry}
 use Rattle.manager_laws.proofs.laws.Roomed.{parentIn}
 use Rattle.world.specs.Numbers.{numbersOf, registeredOf}
@@ -94,7 +94,7 @@ module _ (mem : List ℕ) (token source target rights : ℕ) where
       stated (eqb n 26) (¬ Sound mem)
       (stated (eqb n 20) (Sound mem × ((numbersOf mem .spaces ≤ source) ⊎ (numbersOf mem .spaces ≤ target)))
       (stated (eqb n 1) ((Entered × (got ≡ Nothing)) ⊎ ((t : Took) × (registeredOf (from t) ≤ parent t)))
-      (stated (eqb n 6) (Entered × ((e : CapabilityEntry) × ((got ≡ Entry e) × (holds (e .rights .0) (2 ^ 3) ≡ false))))
+      (stated (eqb n 6) (Entered × ((e : CapabilityEntry) × ((got ≡ Entry e) × (holds (e .rights .0) GRANT ≡ false))))
       (stated (eqb n 10) ((g : Granted) × ((held g ≡ false) × (1024 ≤ remain g)))
       (stated (eqb n 9) ((a : Asked) × (takenId (numbersOf mem) (base (a .granted)) ≡ Exhausted))
       (stated (eqb n 3)
@@ -157,7 +157,7 @@ module _ (mem : List ℕ) (token source target rights : ℕ) where
 
   pub delegate-told-6 :
       (delegateOut mem token source target rights .reply .answer ≡ PermissionDenied)
-      ↔ (Entered × ((e : CapabilityEntry) × ((got ≡ Entry e) × (holds (e .rights .0) (2 ^ 3) ≡ false))))
+      ↔ (Entered × ((e : CapabilityEntry) × ((got ≡ Entry e) × (holds (e .rights .0) GRANT ≡ false))))
   delegate-told-6 = (in-case PermissionDenied, λ (entered, (e, (found, none))). answers (delegate.ungranted entered e found none))
 
   pub delegate-told-10 :

@@ -3,7 +3,7 @@ use mathlib.Core.Bool.{Bool, true, false, not}
 use mathlib.Core.List.{List}
 use mathlib.Core.Logic.{_≢_, ⊎-elim, by-cases}
 use mathlib.Core.Path.{_≡_, refl, sym, ap, subst, _∙_}
-use Prim.Native.Nat.{ℕ, suc, _-_, _^_, _≤_, _<_}
+use Prim.Native.Nat.{ℕ, suc, _-_, _≤_, _<_}
 use native.Mathlib.Decide.{decLt}
 use native.Mathlib.Omega.{arith}
 use borrow.Author.Tests.{lt-ltb, le-ltb}
@@ -29,7 +29,7 @@ use Rattle.steps.proofs.laws.TakeStep.{take-step-kept}
 use Rattle.table.specs.declared.CapabilityEntry.{CapabilityEntry}
 use Rattle.table.specs.declared.Got.{Got}
 use Rattle.table.specs.declared.Got.the-variants.{Entry, Nothing}
-use Rattle.token.specs.Rights.{holds, common}
+use Rattle.token.specs.Rights.{GRANT, holds, common}
 use Rattle.token.specs.Token.{idOf, typeOf}
 use Rattle.world.specs.Numbers.{numbersOf, registeredOf}
 use Rattle.world.specs.Sound.{SoundAt, Sound}
@@ -65,7 +65,7 @@ module _ (mem : List ℕ) (token source target rights : ℕ) where
     pub entered : Entered
     pub entry : CapabilityEntry
     pub found : got ≡ Entry entry
-    pub grant : holds (entry .rights .0) (2 ^ 3) ≡ true
+    pub grant : holds (entry .rights .0) GRANT ≡ true
 
   abbrev pub shared : Granted → ℕ
   shared g = common (g .entry .rights .0) rights
@@ -118,7 +118,7 @@ module _ (mem : List ℕ) (token source target rights : ℕ) where
     bad-source : Sound mem → numbersOf mem .spaces ≤ source → Way
     bad-target : Sound mem → source < numbersOf mem .spaces → numbersOf mem .spaces ≤ target → Way
     absent : Entered → got ≡ Nothing → Way
-    ungranted : Entered → (e : CapabilityEntry) → got ≡ Entry e → holds (e .rights .0) (2 ^ 3) ≡ false → Way
+    ungranted : Entered → (e : CapabilityEntry) → got ≡ Entry e → holds (e .rights .0) GRANT ≡ false → Way
     reused : (g : Granted) → offer g .held ≡ true → Way
     crowded :
         (g : Granted) → offer g .held ≡ false
@@ -226,9 +226,9 @@ module _ (mem : List ℕ) (token source target rights : ℕ) where
 
   entered-way : (entered : Entered) (g : Got) → got ≡ g → Way
   entered-way entered Nothing is = absent entered is
-  entered-way entered (Entry e) is = go (holds (e .rights .0) (2 ^ 3)) refl
+  entered-way entered (Entry e) is = go (holds (e .rights .0) GRANT) refl
     where
-      go : (b : Bool) → holds (e .rights .0) (2 ^ 3) ≡ b → Way
+      go : (b : Bool) → holds (e .rights .0) GRANT ≡ b → Way
       go true grant =
           let g : Granted = record { entered = entered; entry = e; found = is; grant = grant } in
           granted-way g (offer g .held) refl

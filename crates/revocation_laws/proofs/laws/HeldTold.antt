@@ -4,7 +4,7 @@ use mathlib.Core.Bool.{true, false, true≢false}
 use mathlib.Core.List.{List}
 use mathlib.Core.Logic.{_↔_, _≢_, _⊎_, inl, inr, ⊎-elim}
 use mathlib.Core.Path.{_≡_, refl, sym, ap, _∙_}
-use Prim.Native.Nat.{ℕ, _^_, _≤_, _<_}
+use Prim.Native.Nat.{ℕ, _≤_, _<_}
 use native.Mathlib.Omega.{arith}
 use lib.ListN.{length}
 use Rattle.answers.specs.Number.{numberOf}
@@ -17,7 +17,7 @@ use Rattle.steps.proofs.laws.Cases.{Exactly, given, not-given}
 use Rattle.table.specs.declared.CapabilityEntry.{CapabilityEntry}
 use Rattle.table.specs.declared.Got.{Got}
 use Rattle.table.specs.declared.Got.the-variants.{Entry, Nothing}
-use Rattle.token.specs.Rights.{holds}
+use Rattle.token.specs.Rights.{REVOKE, holds}
 use Rattle.world.specs.Numbers.{numbersOf}
 use Rattle.world.specs.Sound.{Sound}
 use Rattle.world.specs.declared.Numbers.{Numbers}
@@ -39,10 +39,10 @@ module _ (mem : List ℕ) (sound : Sound mem) (s : ℕ) (there : s < numbersOf m
 
   -- An entry without REVOKE, or with it.
   abbrev pub Without : Type 0
-  Without = (e : CapabilityEntry) × ((got ≡ Entry e) × (holds (e .rights .0) (2 ^ 4) ≡ false))
+  Without = (e : CapabilityEntry) × ((got ≡ Entry e) × (holds (e .rights .0) REVOKE ≡ false))
 
   abbrev pub With : Type 0
-  With = (e : CapabilityEntry) × ((got ≡ Entry e) × (holds (e .rights .0) (2 ^ 4) ≡ true))
+  With = (e : CapabilityEntry) × ((got ≡ Entry e) × (holds (e .rights .0) REVOKE ≡ true))
 
   abbrev after : List ℕ
   after = lookupStep d s token mem
@@ -81,7 +81,7 @@ module _ (mem : List ℕ) (sound : Sound mem) (s : ℕ) (there : s < numbersOf m
   not-both : Without → With → ⊥
   not-both (e, (is, lacks)) (e′, (is′, has)) =
       let same : e′ ≡ e = one-entry got e′ e is′ is in
-      true≢false (sym has ∙ ap (λ (x : CapabilityEntry). holds (x .rights .0) (2 ^ 4)) same ∙ lacks)
+      true≢false (sym has ∙ ap (λ (x : CapabilityEntry). holds (x .rights .0) REVOKE) same ∙ lacks)
 
   module _ (few : length listed ≤ 32) where
     pub held-told-8 :
@@ -106,7 +106,7 @@ module _ (mem : List ℕ) (sound : Sound mem) (s : ℕ) (there : s < numbersOf m
         (ap (λ (r : Reply). r .answer) (counted-answers d mem sound s there token token time listed))
 
     pub held-answers :
-        (e : CapabilityEntry) → lookedUp (spaceOf (numbersOf mem) s mem) token .got ≡ Entry e → holds (e .rights .0) (2 ^ 4) ≡ true
+        (e : CapabilityEntry) → lookedUp (spaceOf (numbersOf mem) s mem) token .got ≡ Entry e → holds (e .rights .0) REVOKE ≡ true
         → revokeHeldOut mem s token time listed .reply .answer ≡ revokeCapabilityOut mem token time listed .reply .answer
     held-answers e is with′ = rw (held-with-revoke mem sound time listed few s token there e is with′) counted
 

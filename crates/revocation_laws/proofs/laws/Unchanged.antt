@@ -4,7 +4,7 @@ use mathlib.Core.Bool.{true}
 use mathlib.Core.List.{List}
 use mathlib.Core.Logic.{_≢_}
 use mathlib.Core.Path.{_≡_, refl, ap, _∙_}
-use Prim.Native.Nat.{ℕ, _^_, _≤_, _<_}
+use Prim.Native.Nat.{ℕ, _≤_, _<_}
 use native.Mathlib.Omega.{arith}
 use lib.ListN.{length}
 use Rattle.answers.specs.declared.Answer.{Answer}
@@ -20,7 +20,7 @@ use Rattle.steps.proofs.laws.Entered.{world-by-cases}
 use Rattle.steps.proofs.laws.Listed.{into-by-cases}
 use Rattle.table.specs.declared.CapabilityEntry.{CapabilityEntry}
 use Rattle.table.specs.declared.Got.the-variants.{Entry}
-use Rattle.token.specs.Rights.{holds}
+use Rattle.token.specs.Rights.{REVOKE, holds}
 use Rattle.token.specs.Token.{idOf}
 use Rattle.world.specs.Numbers.{numbersOf, registeredOf}
 use Rattle.world.specs.Sound.{states, Sound}
@@ -148,7 +148,7 @@ module _ (mem : List ℕ) (time : ℕ) (listed : List ℕ) where
 
       -- Held with REVOKE, and revoked already: the lookup is counted, and that is all.
       pub held-already :
-          (e : CapabilityEntry) → lookedUp (spaceOf (numbersOf mem) s mem) token .got ≡ Entry e → holds (e .rights .0) (2 ^ 4) ≡ true
+          (e : CapabilityEntry) → lookedUp (spaceOf (numbersOf mem) s mem) token .got ≡ Entry e → holds (e .rights .0) REVOKE ≡ true
           → placeIn (numbersOf mem) mem (idOf token) < registeredOf mem
           → revoked (states (numbersOf mem) mem (placeIn (numbersOf mem) mem (idOf token))) ≡ 1
           → revokeHeldOut mem s token time listed

@@ -3,7 +3,7 @@ use mathlib.Core.Bool.{true, false, not}
 use mathlib.Core.List.{List, [], _∷_}
 use mathlib.Core.Logic.{_≢_, _⊎_, inl, inr, ⊎-elim}
 use mathlib.Core.Path.{_≡_, refl, sym, ap, _∙_}
-use Prim.Native.Nat.{ℕ, _+_, _^_, _≤_, _<_}
+use Prim.Native.Nat.{ℕ, _+_, _≤_, _<_}
 use native.Mathlib.Omega.{arith}
 use borrow.Author.Tests.{not-true, not-false, le-ltb}
 use lib.Dec.{eqb}
@@ -23,7 +23,7 @@ use Rattle.steps.proofs.laws.Entered.{world-by-cases, space-by-cases, space-cal
 use Rattle.table.specs.declared.CapabilityEntry.{CapabilityEntry}
 use Rattle.table.specs.declared.Got.{Got}
 use Rattle.table.specs.declared.Got.the-variants.{Entry, Nothing}
-use Rattle.token.specs.Rights.{holds}
+use Rattle.token.specs.Rights.{REVOKE, holds}
 use Rattle.token.specs.Token.{idOf}
 use Rattle.world.specs.Numbers.{numbersOf, registeredOf}
 use Rattle.world.specs.Sound.{Sound}
@@ -75,14 +75,14 @@ withVisits visits left = record { reply = replied (left .reply .answer) 0 visits
 pub revoking-held-by-cases :
     (d : Numbers) (token time : ℕ) (listed mem : List ℕ) (P : Left Reply → Type 0) (got : Got) (visits : ℕ)
     → (got ≡ Nothing → P (record { reply = replied NotFound 0 visits; memory = mem }))
-    → ((e : CapabilityEntry) → got ≡ Entry e → holds (e .rights .0) (2 ^ 4) ≡ false
+    → ((e : CapabilityEntry) → got ≡ Entry e → holds (e .rights .0) REVOKE ≡ false
     → P (record { reply = replied InsufficientRights 0 visits; memory = mem }))
-    → ((e : CapabilityEntry) → got ≡ Entry e → holds (e .rights .0) (2 ^ 4) ≡ true
+    → ((e : CapabilityEntry) → got ≡ Entry e → holds (e .rights .0) REVOKE ≡ true
     → P (withVisits visits (revokingToken d token time listed mem)))
     → P (revokingHeld d token time listed mem got visits)
 revoking-held-by-cases d token time listed mem P Nothing visits absent without with′ = absent refl
 revoking-held-by-cases d token time listed mem P (Entry e) visits absent without with′ =
-    when-by-cases P _ _ (not (holds (e .rights .0) (2 ^ 4)))
+    when-by-cases P _ _ (not (holds (e .rights .0) REVOKE))
     (λ h. without e refl (not-true _ h)) (λ h. with′ e refl (not-false _ h))
 
 -- ---- the calls
@@ -124,9 +124,9 @@ module _ (mem : List ℕ) (time : ℕ) (listed : List ℕ) (P : Left Reply → T
         → (Sound mem → s < d .spaces → length listed ≤ 32 → found .got ≡ Nothing
         → P (record { reply = replied NotFound 0 (found .visits); memory = looked }))
         → (Sound mem → s < d .spaces → length listed ≤ 32 → (e : CapabilityEntry) → found .got ≡ Entry e
-        → holds (e .rights .0) (2 ^ 4) ≡ false → P (record { reply = replied InsufficientRights 0 (found .visits); memory = looked }))
+        → holds (e .rights .0) REVOKE ≡ false → P (record { reply = replied InsufficientRights 0 (found .visits); memory = looked }))
         → (Sound mem → s < d .spaces → length listed ≤ 32 → (e : CapabilityEntry) → found .got ≡ Entry e
-        → holds (e .rights .0) (2 ^ 4) ≡ true → P (withVisits (found .visits) (revokingToken d token time listed looked)))
+        → holds (e .rights .0) REVOKE ≡ true → P (withVisits (found .visits) (revokingToken d token time listed looked)))
         → P (revokeHeldOut mem s token time listed)
     unfolding revokeHeldOut
     held-by-cases far many absent without with′ =
@@ -174,7 +174,7 @@ module _ (mem : List ℕ) (sound : Sound mem) (time : ℕ) (listed : List ℕ) (
 
   -- Held with REVOKE: what is revoked by the token, on the memory with the lookup counted.
   module _ (s token : ℕ) (there : s < numbersOf mem .spaces) (e : CapabilityEntry)
-      (is : lookedUp (spaceOf (numbersOf mem) s mem) token .got ≡ Entry e) (with′ : holds (e .rights .0) (2 ^ 4) ≡ true)
+      (is : lookedUp (spaceOf (numbersOf mem) s mem) token .got ≡ Entry e) (with′ : holds (e .rights .0) REVOKE ≡ true)
     where
       abbrev after : List ℕ
       after = lookupStep (numbersOf mem) s token mem
@@ -189,4 +189,4 @@ module _ (mem : List ℕ) (sound : Sound mem) (time : ℕ) (listed : List ℕ) (
           space-called (refuse mem) mem _ sound s there
           ∙ when-no _ _ _ (le-ltb 32 (length listed) few)
           ∙ ap (λ g. revokingHeld (numbersOf mem) token time listed after g visits) is
-          ∙ when-no (not (holds (e .rights .0) (2 ^ 4))) _ _ (ap not with′)
+          ∙ when-no (not (holds (e .rights .0) REVOKE)) _ _ (ap not with′)

@@ -1,7 +1,7 @@
 -- `stonespry_rights_contains` meets its contract: what its calls ensure, put together.
 use borrow.Author.Needs.{needs}
 use Rattle.token.specs.Rights.{holds}
-use Rattle.host_tokens.specs.KnownLaws.{of-both}
+use Rattle.host_tokens.specs.BothLaws.{of-both}
 use Rattle.host_tokens.proofs.rights.stonespry_rights_contains.Statement.{statement}
 use Rattle.host_tokens.proofs.rights.stonespry_rights_contains.Tie as tie
 

@@ -1,7 +1,7 @@
 -- `stonespry_rights_difference` meets its contract: what its calls ensure, put together.
 use borrow.Author.Needs.{needs}
 use Rattle.token.specs.Rights.{without}
-use Rattle.host_tokens.specs.KnownLaws.{of-both}
+use Rattle.host_tokens.specs.BothLaws.{of-both}
 use Rattle.host_tokens.proofs.rights.stonespry_rights_difference.Statement.{statement}
 use Rattle.host_tokens.proofs.rights.stonespry_rights_difference.Tie as tie
 

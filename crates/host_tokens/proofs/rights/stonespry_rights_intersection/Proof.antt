@@ -1,7 +1,7 @@
 -- `stonespry_rights_intersection` meets its contract: what its calls ensure, put together.
 use borrow.Author.Needs.{needs}
 use Rattle.token.specs.Rights.{common}
-use Rattle.host_tokens.specs.KnownLaws.{of-both}
+use Rattle.host_tokens.specs.BothLaws.{of-both}
 use Rattle.host_tokens.proofs.rights.stonespry_rights_intersection.Statement.{statement}
 use Rattle.host_tokens.proofs.rights.stonespry_rights_intersection.Tie as tie
 
