@@ -10,7 +10,7 @@ use world::Numbers;
 pub extern "C" fn stonespry_is_sound(mem: &[u64]) -> bool
     ensures { λ r. ⌜ r ≡ soundTest (now (mem .entry)) ⌝ }
 {
-    world::look::is_sound(mem)
+    world_look::is_sound(mem)
 }
 
 // Opens a world in the memory; the answer's number.

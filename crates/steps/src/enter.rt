@@ -4,7 +4,7 @@ ghost use Rattle.steps.specs.Enter.{enteredWorld, enteredSpace};
 use super::Entered;
 use answers::Answer;
 use world::head::numbers;
-use world::look::is_sound;
+use world_look::is_sound;
 
 // 26 on memory that is not sound.
 pub fn enter_world(mem: &[u64]) -> Entered

@@ -10,5 +10,4 @@ pub mod Opened
 pub mod Sound
 pub mod OpenedSound
 pub mod SoundLaws
-pub mod Look
 pub mod Lent

@@ -1,7 +1,6 @@
-// The world: the memory that the caller lends, how it is cut into regions, how it is opened, and the one look over it that every call
-// takes first.
+// The world: the memory that the caller lends, how it is cut into regions, and how it is opened. The one look over it that every call takes
+// first is in `world_look`.
 pub mod head;
-pub mod look;
 pub mod open;
 pub mod regions;
 

@@ -1,0 +1,2 @@
+-- What the proofs of `world_look` share.
+pub mod Looking
