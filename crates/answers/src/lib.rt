@@ -1,9 +1,11 @@
 // The answers that a call can give: the source's refusals and those that the port adds.
 // Document 01, "Answer numbers", has the table; specs/Number.antt says it again, case for case.
+#![tactic(auto)]
+
 ghost use Rattle.std.specs.Prelude.{◌≡◌};
 ghost use Rattle.answers.specs.Number.{number_of};
 
-#[derive(Drop)]
+#[derive(Clone, Copy)]
 pub enum Answer {
     Done,
     InvalidCapability,

@@ -1,6 +1,6 @@
 -- That no two of n values are equal: the values of a function at the places below n, and so the words of a list.
 use Rattle.std.specs.Prelude.{◌≡◌, ◌↔◌, Bool, true, not, List, ℕ, ◌<◌, ◌≤◌, eqb, length, get_or, take}
-use Rattle.std.proofs.Math.Logic.{Iff·rfl}
+use Rattle.std.proofs.Math.Logic.Iff
 use Rattle.std.proofs.Common.{arith, length-take-le, get_or-take}
 use Rattle.base.specs.Below.{all}
 use Rattle.base.specs.AllLaws.{all_ext}
@@ -24,7 +24,7 @@ differ_test n f = all n (is_new f)
 
 pub differ_exactly : (n : ℕ) (f : ℕ → ℕ) → (differ_test n f ≡ true) ↔ Differ n f
 unfolding differ_test is_new
-differ_exactly n f = simp tests Iff·rfl
+differ_exactly n f = simp tests Iff.rfl
 
 -- It goes by the values alone.
 pub differ_ext : (n : ℕ) (f g : ℕ → ℕ) → ((k : ℕ) → k < n → f k ≡ g k) → differ_test n f ≡ differ_test n g

@@ -11,7 +11,7 @@ use crate::arith::wrapping_mul;
 const GOLDEN: u64 = 0x9E37_79B9_7F4A_7C15;
 
 // Where a word stands.
-#[derive(Drop)]
+#[derive(Clone, Copy)]
 pub enum Place {
     At(usize),
     Nowhere,

@@ -1,5 +1,7 @@
 // A cascade: a registered id and all its descendants that are not revoked yet are revoked and logged, and the descendants queued to the
 // listed pids. manager.rs's `revoke`, from the place of its id on.
+#![tactic(auto)]
+
 ghost use Rattle.std.specs.Prelude.{◌≡◌, ◌+◌, ◌<◌, ◌≤◌, length, take};
 ghost use Rattle.registry.specs.PlaceLists.{AllBelow};
 ghost use Rattle.revocation_steps.specs.Revocation.{cascade, carried_out, queues_needed};
@@ -73,10 +75,9 @@ fn revoke_listed(
     listed: &[u64],
 ) -> Reply
     requires { SoundAt d mem.old × AllBelow d.places order.now × (0 < length ids.now) × (length pairs.now ≤ 4096) }
-    ensures* { λ reply. ⌜
-        record { reply = reply; memory = mem.new }
-        ≡ carrying_out d order.now ids.now pairs.now time listed.now mem.old
-        ⌝ }
+    ensures {
+        record { reply = result; memory = mem.new }
+        ≡ carrying_out d order.now ids.now pairs.now time listed.now mem.old }
 {
     if d.pairs < mem[LOGGED] as usize + pairs.len() {
         return refusal(Answer::LogFull);
@@ -91,7 +92,7 @@ fn revoke_listed(
 // Place r is revoked with all under it. Already revoked: nothing changes.
 pub fn revoke_at(mem: &mut [u64], d: Numbers, r: usize, time: u64, listed: &[u64]) -> Reply
     requires { SoundAt d mem.old × (r < registered_of mem.old) }
-    ensures* { λ reply. ⌜ record { reply = reply; memory = mem.new } ≡ revoking d r time listed.now mem.old ⌝ }
+    ensures { record { reply = result; memory = mem.new } ≡ revoking d r time listed.now mem.old }
 {
     if state_at(mem, d, r) % 2 == 1 {
         return done(0);

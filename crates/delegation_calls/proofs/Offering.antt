@@ -90,19 +90,19 @@ module _ (d : Numbers) (target p cap_type rights : ℕ) where
   module _ (k : ℕ) (mem : List ℕ) where
     -- By what the code saw of the place: whether it is an unrevoked child,
     module _ (seen : Bool) (is_open : seen ≡ open_child d mem p k) where
-      shut_place : not seen ≡ true → from k 1 mem ≡ record { held = false; token = 0; memory = mem }
+      shut_place : seen ≡ false → from k 1 mem ≡ record { held = false; token = 0; memory = mem }
       unfolding offered_from
-      shut_place shut = rw (sym is_open ∙ not-true seen shut)
+      shut_place shut = rw (sym is_open ∙ shut)
 
-      pub shut_offers : not seen ≡ true → Absent ≡ offer_of (offered_from d target p cap_type rights k 1 mem)
+      pub shut_offers : seen ≡ false → Absent ≡ offer_of (offered_from d target p cap_type rights k 1 mem)
       unfolding offer_of
       shut_offers shut = sym (ap offer_of (shut_place shut))
 
-      pub shut_leaves : not seen ≡ true → mem ≡ (offered_from d target p cap_type rights k 1 mem).memory
+      pub shut_leaves : seen ≡ false → mem ≡ (offered_from d target p cap_type rights k 1 mem).memory
       shut_leaves shut = sym (ap (λ (o : Offered). o.memory) (shut_place shut))
 
       -- the token that it made of it, and whether the target holds that.
-      module _ (opened : not seen ≡ false) (id of_type : ℕ) (is_id : id ≡ ids d mem k) (is_type : of_type ≡ cap_type)
+      module _ (opened : seen ≡ true) (id of_type : ℕ) (is_id : id ≡ ids d mem k) (is_type : of_type ≡ cap_type)
           (child : CapabilityToken) (is_child : child.0 ≡ token_of id of_type rights)
           (l : LookedUp) (looked : l ≡ looked_up (space_of d target mem) child.0)
           (told : Bool) (tells : told ≡ held_with rights l.got)
@@ -117,7 +117,7 @@ module _ (d : Numbers) (target p cap_type rights : ℕ) where
               ≡ pick told (record { held = true; token = child.0; memory = lookup_step d target child.0 mem })
               (record { held = false; token = 0; memory = lookup_step d target child.0 mem })
           unfolding offered_from
-          open_place = rw (sym is_open ∙ not-false seen opened, ← tells_there, is_token)
+          open_place = rw (sym is_open ∙ opened, ← tells_there, is_token)
 
           pub held_offers : told ≡ true → Held child ≡ offer_of (offered_from d target p cap_type rights k 1 mem)
           unfolding offer_of

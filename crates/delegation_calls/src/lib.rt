@@ -1,5 +1,7 @@
 // The call of the manager that derives: manager.rs's `delegate`, on the world's memory. It asks nothing of its arguments or of the memory:
 // it looks first, and refuses by document 01's table.
+#![tactic(auto)]
+
 mod delegation;
 mod derive;
 mod offer;

@@ -15,7 +15,7 @@ use world::Numbers;
 use world::head::REGISTERED;
 
 // The token of a child that the target holds already, if there is one.
-#[derive(Drop)]
+#[derive(Clone, Copy)]
 pub enum Offer {
     Held(CapabilityToken),
     Absent,

@@ -1,5 +1,7 @@
 // What a program in C or Rust calls of the manager and of revocation, and a run of the request stream: by plain names, numbers in, numbers
 // out. The contract of each cites the same definition as the call's own.
+#![tactic(auto)]
+
 mod manager;
 mod revocation;
 mod stream;

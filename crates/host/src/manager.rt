@@ -12,7 +12,7 @@ use token::{CapabilityToken, Rights};
 
 // The answer's number, and the statistics of the manager.
 #[repr(C)]
-#[derive(Drop)]
+#[derive(Clone, Copy)]
 pub struct ManagerAnswer {
     pub answer: u8,
     pub created: u64,
@@ -23,7 +23,7 @@ pub struct ManagerAnswer {
 
 // The answer's number, how many capabilities have a list of delegations, and how many delegations there are.
 #[repr(C)]
-#[derive(Drop)]
+#[derive(Clone, Copy)]
 pub struct TreeAnswer {
     pub answer: u8,
     pub parents: u64,

@@ -13,7 +13,7 @@ use token::CapabilityToken;
 
 // The answer's number, how many processes have notifications, and how many notifications there are.
 #[repr(C)]
-#[derive(Drop)]
+#[derive(Clone, Copy)]
 pub struct QueuesAnswer {
     pub answer: u8,
     pub processes: u64,

@@ -6,7 +6,7 @@ use steps::Reply;
 
 // The answer's number, its value, and the slots that the call's search visited or the entries that it moved.
 #[repr(C)]
-#[derive(Drop)]
+#[derive(Clone, Copy)]
 pub struct CallAnswer {
     pub answer: u8,
     pub value: u64,

@@ -12,7 +12,7 @@ use token::{CapabilityToken, Rights};
 
 // The answer's number, an entry, and the slots that the search for it visited.
 #[repr(C)]
-#[derive(Drop)]
+#[derive(Clone, Copy)]
 pub struct EntryAnswer {
     pub answer: u8,
     pub token: u64,
@@ -24,7 +24,7 @@ pub struct EntryAnswer {
 
 // The answer's number, and the statistics of a space.
 #[repr(C)]
-#[derive(Drop)]
+#[derive(Clone, Copy)]
 pub struct StatsAnswer {
     pub answer: u8,
     pub hits: u64,

@@ -7,7 +7,7 @@ use token::{CapabilityFlags, Combined, Named};
 
 // The answer's number, and whether the flags have the permission; a refusal says no.
 #[repr(C)]
-#[derive(Drop)]
+#[derive(Clone, Copy)]
 pub struct HasAnswer {
     pub answer: u8,
     pub has: bool,
@@ -15,7 +15,7 @@ pub struct HasAnswer {
 
 // The answer's number, and the flags; those of a refusal are 0.
 #[repr(C)]
-#[derive(Drop)]
+#[derive(Clone, Copy)]
 pub struct FlagsAnswer {
     pub answer: u8,
     pub flags: u8,

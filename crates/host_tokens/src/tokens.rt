@@ -7,7 +7,7 @@ use token::{CapabilityToken, Made};
 
 // The answer's number, and the token's word; the word of a refusal is 0.
 #[repr(C)]
-#[derive(Drop)]
+#[derive(Clone, Copy)]
 pub struct TokenAnswer {
     pub answer: u8,
     pub token: u64,

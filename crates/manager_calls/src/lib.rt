@@ -2,6 +2,8 @@
 // `derivation_tree_stats`, on the world's memory; and the census of a space. No call asks anything of its arguments or of the memory: each
 // looks first, and refuses by document 01's table. `admit` and `tokens` are no calls: they are what create and check have in common with
 // `delegation_calls`.
+#![tactic(auto)]
+
 pub mod admit;
 mod check;
 mod creation;
@@ -16,7 +18,7 @@ pub use deletion::delete;
 pub use read::{census, derivation_tree_stats, get_children, stats};
 
 // The statistics of the manager, zeros on a refusal.
-#[derive(Drop)]
+#[derive(Clone, Copy)]
 pub struct StatsReply {
     pub answer: Answer,
     pub created: u64,
@@ -26,7 +28,7 @@ pub struct StatsReply {
 }
 
 // How many capabilities have a list of delegations, and how many delegations there are, zeros on a refusal.
-#[derive(Drop)]
+#[derive(Clone, Copy)]
 pub struct TreeReply {
     pub answer: Answer,
     pub parents: u64,

@@ -3,7 +3,8 @@
 use Rattle.std.specs.Prelude.{◌≡◌, ℕ, zero, suc, ◌+◌, ◌-◌, ◌*◌, ◌<◌, ◌≤◌, Bool, true, false, not, ◌≢◌, ◌↔◌, List, length, ◌==◌, refl}
 use Rattle.std.proofs.Common.{sym, ◌∙◌, ⊎_elim, true≢false, arith, eqb-true, ne_eqb}
 use Rattle.std.proofs.Math.Path.{ap}
-use Rattle.std.proofs.Math.Logic.{Iff·trans, by_cases}
+use Rattle.std.proofs.Math.Logic.{by_cases}
+use Rattle.std.proofs.Math.Logic.Iff
 use Rattle.std.proofs.Math.Decide.{ℕ_discrete}
 use Rattle.base.specs.Choose.{pick, both, both_left}
 use Rattle.base.specs.Distinct.{Differ, Among}
@@ -126,7 +127,7 @@ module _ (places p n k : ℕ) (rg : List ℕ) (inside : k < n) (fit : n ≤ plac
         before = λ linked.
             same_places_trans places (p + 1) k rg rest c.words (omega (arith, parent_before linked))
             (unregistered_before places n k rg inside fit long) (later.before (relinked linked));
-        exactly = λ linked x. Iff·trans (later.exactly (relinked linked) x) (stays_left linked x);
+        exactly = λ linked x. Iff.trans (later.exactly (relinked linked) x) (stays_left linked x);
         keeps = λ m next spaces rules. later.keeps m next spaces (unregistered_keeps places n k rg inside fit long m next spaces rules);
       }
 
@@ -150,7 +151,7 @@ module _ (places p n k : ℕ) (rg : List ℕ) (needed : unneeded places p n rg k
     same_length = later.same_length;
     parent_inside = later.parent_inside;
     before = later.before;
-    exactly = λ linked x. Iff·trans (later.exactly linked x) (stays_needed x);
+    exactly = λ linked x. Iff.trans (later.exactly linked x) (stays_needed x);
     keeps = later.keeps;
   }
 
@@ -232,8 +233,8 @@ module _ (places p n : ℕ) (rg : List ℕ) (inside : p < n) (fit : n ≤ places
         → (place_of after.left after.words x < after.left)
         ↔ ((place_of n rg x < n) × (unneeded places p n rg (place_of n rg x) ≡ false))
     collected_exactly differ x =
-        Iff·trans (registered_among after.left after.words x)
-        (Iff·trans (whole.exactly linked x) (
+        Iff.trans (registered_among after.left after.words x)
+        (Iff.trans (whole.exactly linked x) (
           λ s. rw (place_is n rg x s.place differ s.registered s.holds) (s.registered, s.needed s.registered),
           λ (l, needed). record { place = place_of n rg x; registered = l; holds = place_holds n rg x l; needed = λ u. needed },
         ))

@@ -1,4 +1,6 @@
 // The look over a registry: document 01's rules of it, in a few passes over what it holds.
+#![tactic(auto)]
+
 ghost use Rattle.std.specs.Prelude.{◌≡◌, true, ◌+◌, ◌*◌, ◌<◌, ◌≤◌, leb, eqb, length, get_or, take};
 ghost use Rattle.base.specs.Below.{all};
 ghost use Rattle.base.specs.Chain.{Chained};

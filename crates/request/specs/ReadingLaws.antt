@@ -1,7 +1,7 @@
 -- When a record's call is made and when it is refused, in words of its fields.
 use Rattle.std.specs.Prelude.{◌≡◌, refl, ◌↔◌, ◌≢◌, Bool, true, false, not, ℕ, ◌<◌, ◌≤◌, eqb, ltb}
 use Rattle.std.proofs.Common.{sym, true≢false, arith, ltb-false, le-ltb, ne_eqb}
-use Rattle.std.proofs.Math.Logic.{Iff·rfl}
+use Rattle.std.proofs.Math.Logic.Iff
 use Rattle.std.proofs.lemmas.Bool.{eqb-false, not-false}
 use Rattle.answers.specs.declared.Answer.TheVariants.{BadSpace, BadField}
 use Rattle.base.specs.Choose.{pick, when}
@@ -69,7 +69,7 @@ module _ (r : Request) where
 
   pub clear_exactly : (zero_unread r ≡ true) ↔ Clear
   unfolding zero_unread
-  clear_exactly = simp (both_exactly, all_exactly, spared_exactly, eqb_exactly) Iff·rfl
+  clear_exactly = simp (both_exactly, all_exactly, spared_exactly, eqb_exactly) Iff.rfl
 
   stray_exactly : (zero_unread r ≡ false) ↔ (¬ Clear)
   stray_exactly = opposite (zero_unread r) true clear_exactly
@@ -81,7 +81,7 @@ module _ (r : Request) where
 
     pub near_exactly : (too_far r spaces ≡ false) ↔ Near
     unfolding too_far
-    near_exactly = simp (fails_exactly, all_exactly, asked_exactly, leb_exactly) Iff·rfl
+    near_exactly = simp (fails_exactly, all_exactly, asked_exactly, leb_exactly) Iff.rfl
 
     far_exactly : (too_far r spaces ≡ true) ↔ (¬ Near)
     far_exactly = opposite (too_far r spaces) false near_exactly
@@ -89,14 +89,14 @@ module _ (r : Request) where
     -- The call is made exactly for an op that is listed, with its space numbers below S and nothing in the fields that it does not read;
     pub good_exactly : (verdict_of r spaces ≡ Good) ↔ ((1 ≤ r.op) × (r.op ≤ 15) × Near × Clear)
     unfolding verdict_of
-    good_exactly = simp (order_good, none_exactly, past_exactly, near_exactly, clear_exactly) Iff·rfl
+    good_exactly = simp (order_good, none_exactly, past_exactly, near_exactly, clear_exactly) Iff.rfl
 
     -- 20 is given exactly for an op that is listed, where a space number is S or more;
     pub space_exactly : (verdict_of r spaces ≡ Refused BadSpace) ↔ ((1 ≤ r.op) × (r.op ≤ 15) × ¬ Near)
     unfolding verdict_of
-    space_exactly = simp (order_space, none_exactly, past_exactly, far_exactly) Iff·rfl
+    space_exactly = simp (order_space, none_exactly, past_exactly, far_exactly) Iff.rfl
 
     -- and 21 exactly where the op is not listed, or else its space numbers are below S and a field that it does not read is not zero.
     pub field_exactly : (verdict_of r spaces ≡ Refused BadField) ↔ (1 ≤ r.op → r.op ≤ 15 → Near × ¬ Clear)
     unfolding verdict_of
-    field_exactly = simp (order_field, none_exactly, past_exactly, near_exactly, stray_exactly) Iff·rfl
+    field_exactly = simp (order_field, none_exactly, past_exactly, near_exactly, stray_exactly) Iff.rfl

@@ -1,5 +1,7 @@
 // The records of the request stream: the fields of one, which of them each operation reads, what is refused before a call is made, and the
 // line that is printed for it. The calls and a whole run are `request_run`.
+#![tactic(auto)]
+
 mod line;
 mod masks;
 mod record;
@@ -10,7 +12,7 @@ pub use masks::judge;
 pub use record::request_of;
 
 // A record, field by field; the flag of validity is a bit.
-#[derive(Drop)]
+#[derive(Clone, Copy)]
 pub struct Request {
     pub op: u64,
     pub space: u64,
@@ -24,7 +26,7 @@ pub struct Request {
 }
 
 // Whether a record's call is made.
-#[derive(Drop)]
+#[derive(Clone, Copy)]
 pub enum Verdict {
     Good,
     Refused(Answer),

@@ -24,7 +24,7 @@ fn drain(mem: &mut [u64], pid: u64) -> Reply
 // Create, delegate, lookup, check, remove.
 fn call_1_to_5(r: Request, mem: &mut [u64]) -> Reply
     requires { (r.cap_type ≤ 15) × (r.rights < 2 ^ 32) }
-    ensures* { λ reply. ⌜ record { reply = reply; memory = mem.new } ≡ called_1_to_5 r mem.old ⌝ }
+    ensures { record { reply = result; memory = mem.new } ≡ called_1_to_5 r mem.old }
 {
     let s = r.space as usize;
     let token = CapabilityToken(r.a);
@@ -53,7 +53,7 @@ fn call_1_to_5(r: Request, mem: &mut [u64]) -> Reply
 
 // Delete, held revoke, clear, copy, `revoke_all`.
 fn call_6_to_10(r: Request, mem: &mut [u64]) -> Reply
-    ensures* { λ reply. ⌜ record { reply = reply; memory = mem.new } ≡ called_6_to_10 r mem.old ⌝ }
+    ensures { record { reply = result; memory = mem.new } ≡ called_6_to_10 r mem.old }
 {
     let s = r.space as usize;
     if r.op == 6 {
@@ -74,7 +74,7 @@ fn call_6_to_10(r: Request, mem: &mut [u64]) -> Reply
 // Insert, space-made create, space revoke, drain, `revoke_capability`.
 fn call_11_to_15(r: Request, mem: &mut [u64]) -> Reply
     requires { r.rights < 2 ^ 32 }
-    ensures* { λ reply. ⌜ record { reply = reply; memory = mem.new } ≡ called_11_to_15 r mem.old ⌝ }
+    ensures { record { reply = result; memory = mem.new } ≡ called_11_to_15 r mem.old }
 {
     let s = r.space as usize;
     let rights = Rights(r.rights as u32);
@@ -95,7 +95,7 @@ fn call_11_to_15(r: Request, mem: &mut [u64]) -> Reply
 
 fn call(r: Request, mem: &mut [u64]) -> Reply
     requires { (r.cap_type ≤ 15) × (r.rights < 2 ^ 32) }
-    ensures* { λ reply. ⌜ record { reply = reply; memory = mem.new } ≡ called r mem.old ⌝ }
+    ensures { record { reply = result; memory = mem.new } ≡ called r mem.old }
 {
     if r.op < 6 {
         return call_1_to_5(r, mem);
@@ -109,7 +109,7 @@ fn call(r: Request, mem: &mut [u64]) -> Reply
 // A record is refused before its call, or its call is made.
 pub fn answer(r: Request, mem: &mut [u64]) -> Reply
     requires { (r.cap_type ≤ 15) × (r.rights < 2 ^ 32) }
-    ensures* { λ reply. ⌜ record { reply = reply; memory = mem.new } ≡ answered r mem.old ⌝ }
+    ensures { record { reply = result; memory = mem.new } ≡ answered r mem.old }
 {
     match judge(r, SPACES) {
         Verdict::Refused(a) => refusal(a),

@@ -1,5 +1,7 @@
 // A run of the request stream: the records of `request` one after the other on a world of its own, the call that each asks for, and a line
 // for each.
+#![tactic(auto)]
+
 ghost use Rattle.std.specs.Prelude.{◌≡◌, ◌+◌, ◌*◌, ◌<◌, ◌≤◌, length};
 ghost use Rattle.base.specs.Written.{written};
 ghost use Rattle.request_run.specs.Run as spec;

@@ -1,12 +1,12 @@
 -- Each test of the log and of the queues is true exactly when its rule holds.
 use Rattle.std.specs.Prelude.{◌≡◌, ◌↔◌, true, List, ℕ, ◌<◌}
-use Rattle.std.proofs.Math.Logic.{Iff·rfl}
+use Rattle.std.proofs.Math.Logic.Iff
 use Rattle.base.specs.Exactly.{some_exactly, tests}
 use Rattle.revocation.specs.Words.{length_of}
 use Rattle.revocation.specs.Sound.{Pairs, pairs_test, SoundQueue, queue_test, PidsDiffer, pids_differ_test}
 
 pub pairs_exactly : (n : ℕ) (pair : ℕ → ℕ) → (pairs_test n pair ≡ true) ↔ Pairs n pair
-pairs_exactly n pair = simp tests Iff·rfl
+pairs_exactly n pair = simp tests Iff.rfl
 
 -- Of a place that is a queue, the rule is asked; of a free one, nothing.
 pub queue_exactly : (qu : List ℕ) → (queue_test qu ≡ true) ↔ (0 < length_of qu → SoundQueue qu)

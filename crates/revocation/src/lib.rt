@@ -1,4 +1,6 @@
 // The revocation log and the notification queues, each on its own slice of words, and the reasons that a notification gives.
+#![tactic(auto)]
+
 ghost use Rattle.std.specs.Prelude.{◌≡◌, ◌≤◌, length};
 ghost use Rattle.base.specs.Written.{written};
 ghost use Rattle.revocation.specs.Reason.{number_of, reason_of, name_of};
@@ -8,7 +10,7 @@ pub mod look;
 pub mod queues;
 
 // Why a capability was revoked.
-#[derive(Drop)]
+#[derive(Clone, Copy)]
 pub enum RevocationReason {
     // By the process that owns it.
     Explicit,

@@ -2,6 +2,8 @@
 // `revoke_capability`, `revoke_held` and `revoke_batch`. No call asks anything of its arguments or of the memory: each looks first, and
 // refuses by document 01's table. What revocation says of itself is in `revocation_reads`, the calls for notifications in
 // `notification_calls`.
+#![tactic(auto)]
+
 ghost use Rattle.std.specs.Prelude.{◌≡◌, ◌≤◌, length};
 ghost use Rattle.steps.specs.Replies.{done};
 ghost use Rattle.world.specs.Sound.{SoundAt};

@@ -1,6 +1,8 @@
 // What revocation says of itself: whether a token is in the log, the epoch, the descendants of an id, and the names of its reasons. No call
 // asks anything of its arguments or of the memory: each but `write_reason`, which has no memory, looks first, and refuses by document 01's
 // table.
+#![tactic(auto)]
+
 ghost use Rattle.std.specs.Prelude.{◌≡◌, ◌<◌};
 ghost use Rattle.steps.specs.Replies.{into_area};
 ghost use Rattle.world.specs.Numbers.{registered_of};
@@ -46,10 +48,9 @@ pub fn epoch(mem: &[u64]) -> Reply
 // The ids under place r, breadth first, to the front of the area.
 fn list_under(mem: &[u64], d: Numbers, r: usize, area: &mut [u64]) -> Reply
     requires { SoundAt d mem.now × (r < registered_of mem.now) }
-    ensures* { λ reply. ⌜
-        record { reply = reply; area = area.new }
-        ≡ into_area (descendants d mem.now r) area.old
-        ⌝ }
+    ensures {
+        record { reply = result; area = area.new }
+        ≡ into_area (descendants d mem.now r) area.old }
 {
     let mut order = [0u16; 4096];
     let count = descend(mem, d, r, &mut order);

@@ -8,14 +8,14 @@ use super::find::{exact, is_found};
 use table::Search;
 use token::CapabilityToken;
 
-#[derive(Drop)]
+#[derive(Clone, Copy)]
 pub struct Counters {
     pub hits: u64,
     pub misses: u64,
 }
 
 // A search, and the counters after it.
-#[derive(Drop)]
+#[derive(Clone, Copy)]
 pub struct CountedSearch {
     pub search: Search,
     pub counters: Counters,

@@ -1,5 +1,7 @@
 // One capability space: space.rs's `CapabilitySpace` on the words that hold it (specs/Words.antt). What the source keeps behind locks
 // and atomics are plain words here; the slots of its table, from word 8 on, are the crate `table`'s.
+#![tactic(auto)]
+
 mod change;
 mod copy;
 mod counters;
@@ -18,14 +20,14 @@ use table::Got;
 pub use words::{SLOTS, TABLE, generation, hits, misses, quota, table_capacity, used};
 
 // The entry that a call found, if it found one, and the slots that its search visited.
-#[derive(Drop)]
+#[derive(Clone, Copy)]
 pub struct LookedUp {
     pub got: Got,
     pub visits: usize,
 }
 
 // What an insert answers, and the entries that its rebuild moved.
-#[derive(Drop)]
+#[derive(Clone, Copy)]
 pub struct Insertion {
     pub answer: Answer,
     pub moved: usize,

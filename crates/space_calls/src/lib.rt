@@ -2,6 +2,8 @@
 // that counts its generation up; and `alloc_cap_id` of token.rs, on the world's memory. No call asks anything of its arguments or of the
 // memory: each looks first, and refuses by document 01's table. The calls that read a space, counted lookups among them, are in
 // `space_reads`.
+#![tactic(auto)]
+
 mod changes;
 mod ids;
 mod replies;

@@ -155,18 +155,18 @@ pub ruleset world_enters = (world_refuses, world_makes, world_ready, world_head,
 -- ---- the code's own ways
 
 module _ (mem : List ℕ) (sound : Bool) (looked : sound ≡ sound_test mem) where
-  pub world_unsound : not sound ≡ true → Refused BadWorld ≡ entered_world mem
+  pub world_unsound : sound ≡ false → Refused BadWorld ≡ entered_world mem
   unfolding on_world
-  world_unsound t = sym (when_yes _ _ _ (ap not (sym looked) ∙ t))
+  world_unsound t = sym (when_yes _ _ _ (ap not (sym looked ∙ t)))
 
-  module _ (t : not sound ≡ false) where
+  module _ (t : sound ≡ true) where
     pub head_there : 16 ≤ length mem
     unfolding length_for
-    head_there = omega (arith, ((sound_exactly mem).0 (sym looked ∙ not-false sound t)).long_enough)
+    head_there = omega (arith, ((sound_exactly mem).0 (sym looked ∙ t)).long_enough)
 
     pub world_good : (d : Numbers) → d ≡ numbers_of mem → Good d ≡ entered_world mem
     unfolding on_world
-    world_good d is = rw is (sym (when_no _ _ _ (ap not (sym looked) ∙ t)))
+    world_good d is = rw is (sym (when_no _ _ _ (ap not (sym looked ∙ t))))
 
 module _ (mem : List ℕ) (r : Entered) (seen : r ≡ entered_world mem) (s : ℕ) where
   pub space_unsound : (a : Answer) → r ≡ Refused a → Refused a ≡ entered_space mem s

@@ -1,4 +1,6 @@
 // Document 01's request stream program: reads records from standard input and prints a line for each.
+#![tactic(auto)]
+
 use libc::{STDIN_FILENO, STDOUT_FILENO};
 use request_run::{ROOM, run_alone};
 

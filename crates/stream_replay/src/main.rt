@@ -2,9 +2,11 @@
 // lines and an empty one. A stream is three numbers of two bytes, the most significant first, and bytes: how many bytes it keeps of the
 // stream before it, how many it has with those that follow here, and how many bytes of its lines are not printed, since they are those of
 // the stream before it.
+#![tactic(auto)]
+
 use libc::{STDIN_FILENO, STDOUT_FILENO};
 
-#[derive(Drop)]
+#[derive(Clone, Copy)]
 struct Head {
     kept: usize,
     length: usize,

@@ -2,6 +2,8 @@
 // Its slots stand in words that the caller lends, four words a slot (specs/Slots.antt); what the source keeps beside its slots is a
 // `CapTable` that goes in by value and comes back by value. Of document 01's "Table of a space (001)" the rules of home, walks, rebuild,
 // placing, removing and copying are here, in specs/; lookup, quota, generation and holders are in the crates above.
+#![tactic(auto)]
+
 mod copy;
 mod insert;
 mod remove;
@@ -16,7 +18,7 @@ pub use walk::{find, get};
 pub use words::{FULL, REMOVED, entry_at, id_at, kind_at, slot_at};
 
 // A single capability entry.
-#[derive(Drop)]
+#[derive(Clone, Copy)]
 pub struct CapabilityEntry {
     pub capability: CapabilityToken,
     pub object: u64,
@@ -26,7 +28,7 @@ pub struct CapabilityEntry {
 }
 
 // One slot, with its entry where it holds one. A walk goes on past a removed entry's mark.
-#[derive(Drop)]
+#[derive(Clone, Copy)]
 pub enum Slot {
     Empty,
     Tombstone,
@@ -34,7 +36,7 @@ pub enum Slot {
 }
 
 // What a table is beside its slots: how many there are, how many are full, how many hold a removed entry's mark.
-#[derive(Drop)]
+#[derive(Clone, Copy)]
 pub struct CapTable {
     pub slots: usize,
     pub full: usize,
@@ -42,42 +44,42 @@ pub struct CapTable {
 }
 
 // Where a search ended.
-#[derive(Drop)]
+#[derive(Clone, Copy)]
 pub enum Found {
     At(usize),
     Absent,
 }
 
 // The entry of an id, if the table holds one.
-#[derive(Drop)]
+#[derive(Clone, Copy)]
 pub enum Got {
     Entry(CapabilityEntry),
     Nothing,
 }
 
 // The n-th live entry, or past the last.
-#[derive(Drop)]
+#[derive(Clone, Copy)]
 pub enum Nth {
     Entry(CapabilityEntry),
     Past,
 }
 
 // A search's end and the slots that it visited.
-#[derive(Drop)]
+#[derive(Clone, Copy)]
 pub struct Search {
     pub found: Found,
     pub visits: usize,
 }
 
 // The table after an insert or a copy, and the entries that its rebuilds moved.
-#[derive(Drop)]
+#[derive(Clone, Copy)]
 pub struct Inserted {
     pub table: CapTable,
     pub moved: usize,
 }
 
 // The table after a removal, and what left.
-#[derive(Drop)]
+#[derive(Clone, Copy)]
 pub struct Removed {
     pub table: CapTable,
     pub left: Got,

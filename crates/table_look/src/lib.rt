@@ -1,4 +1,6 @@
 // Whether a table is sound: document 01's rules of one table, with a pass over its slots and a search of each live one's id.
+#![tactic(auto)]
+
 ghost use Rattle.std.specs.Prelude.{true, ◌≡◌, ◌+◌, ◌*◌, ◌≤◌, ◌<◌, eqb, ltb, length, get_or};
 ghost use Rattle.base.specs.Below.{all, one};
 ghost use Rattle.base.specs.Choose.{both};

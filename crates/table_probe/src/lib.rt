@@ -1,6 +1,8 @@
 // The table's functions for a program in Rust that compares them with the original's and measures both; no host calls them.
 // Beside its words a table is four numbers: slots, full, tombstones, and the entries that the last call moved. An entry comes back as
 // four words: token, object, uses, rights. Ranges are the caller's to keep, as in the crate `table`.
+#![tactic(auto)]
+
 ghost use Rattle.std.specs.Prelude.{◌≡◌, ◌+◌, ◌*◌, ◌<◌, ◌≤◌, length, get_or};
 ghost use Rattle.table.specs.Walk.{search, got};
 ghost use Rattle.table.specs.Insert.{slots_for, held_at, Insertable, insert_new, removed_at, live_entries, gathered, holds, scratch_entries, none};
@@ -17,7 +19,7 @@ use token::{CapabilityToken, Rights};
 
 // A search's end: the slot, or all ones where the id is absent, and the visits.
 #[repr(C)]
-#[derive(Drop)]
+#[derive(Clone, Copy)]
 pub struct Ended {
     pub at: usize,
     pub visits: usize,

@@ -15,11 +15,11 @@ const FLAGS: u64 = 1 << 60;
 // The largest id.
 const MAX_CAP_ID: u64 = (1 << 48) - 1;
 
-#[derive(Drop)]
+#[derive(Clone, Copy)]
 pub struct CapabilityToken(pub u64);
 
 // What making a token answers: the token, or the refusal of a field that does not fit.
-#[derive(Drop)]
+#[derive(Clone, Copy)]
 pub enum Made {
     Token(CapabilityToken),
     Refused(Answer),

@@ -5,7 +5,7 @@ ghost use Rattle.token.specs.Flags.{bit_of, has_flag, named, combined};
 
 use answers::Answer;
 
-#[derive(Drop)]
+#[derive(Clone, Copy)]
 pub enum CapabilityFlags {
     Read = 0b0001,
     Write = 0b0010,
@@ -14,14 +14,14 @@ pub enum CapabilityFlags {
 }
 
 // What a number names: a permission, or the refusal of a number that is no permission's.
-#[derive(Drop)]
+#[derive(Clone, Copy)]
 pub enum Named {
     Flag(CapabilityFlags),
     Refused(Answer),
 }
 
 // What combining permissions answers: the flags, or the refusal of a number that is no permission's.
-#[derive(Drop)]
+#[derive(Clone, Copy)]
 pub enum Combined {
     Flags(u8),
     Refused(Answer),

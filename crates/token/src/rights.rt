@@ -5,7 +5,7 @@ ghost use Rattle.token.specs.Rights.{constants, holds, common, either, without, 
 
 use super::flags::CapabilityFlags;
 
-#[derive(Drop)]
+#[derive(Clone, Copy)]
 pub struct Rights(pub u32);
 
 // The named rights in the order of their bits, then all of them.

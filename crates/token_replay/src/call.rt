@@ -7,7 +7,7 @@ use answers::Answer;
 use token::{CapabilityFlags, CapabilityToken, Combined, Made, Named, Rights};
 
 // The answer's number, and the value or 0.
-#[derive(Drop)]
+#[derive(Clone, Copy)]
 pub struct Outcome {
     pub answer: u8,
     pub value: u64,

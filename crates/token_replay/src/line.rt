@@ -5,7 +5,7 @@ ghost use Rattle.token_replay.specs.Line.{digit_of, spelt, call_of};
 // Two digits and four words of 16, a space before each word, and the line end.
 pub const LENGTH: usize = 71;
 
-#[derive(Drop)]
+#[derive(Clone, Copy)]
 pub struct Call {
     pub number: u64,
     pub a: u64,

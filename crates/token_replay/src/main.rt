@@ -1,6 +1,8 @@
 // Replays the fixed list of the original's answers for token.rs (tools/make-token-list): a call to a line of
 // standard input, and for each a line as the request stream prints it: place in the list, the call's number,
 // answer, value in hex.
+#![tactic(auto)]
+
 mod call;
 mod line;
 

@@ -8,11 +8,11 @@ use lib.Dec.{eqb, leb}
 use Rattle.base.specs.Choose.{both}
 
 -- A test that a call answers, as r.
-pub fails : (r a b : Bool) → r ≡ a → not r ≡ true → false ≡ both a b
-fails r a b e f = rw (← e, not-true r f)
+pub fails : (r a b : Bool) → r ≡ a → r ≡ false → false ≡ both a b
+fails r a b e f = rw (← e, f)
 
-pub passes : (r a b x : Bool) → r ≡ a → not r ≡ false → x ≡ b → x ≡ both a b
-passes r a b x e t h = rw (← e, not-false r t) h
+pub passes : (r a b x : Bool) → r ≡ a → r ≡ true → x ≡ b → x ≡ both a b
+passes r a b x e t h = rw (← e, t) h
 
 -- A test of two numbers.
 pub differs : (m n : ℕ) (b : Bool) → (m ≡ n → ⊥) → false ≡ both (eqb m n) b

@@ -1,6 +1,6 @@
 -- The test of a memory is the rules: it is true exactly when every rule holds, on memory of every length.
 use Rattle.std.specs.Prelude.{◌≡◌, ◌↔◌, true, List, ℕ, ◌+◌, ◌^◌, ◌≤◌, ◌<◌, length}
-use Rattle.std.proofs.Math.Logic.{Iff·rfl}
+use Rattle.std.proofs.Math.Logic.Iff
 use Rattle.base.specs.Distinct.{differ_exactly}
 use Rattle.base.specs.Exactly.{both_exactly, leb_exactly, all_exactly}
 use Rattle.registry.specs.Sound.{registry_test}
@@ -47,13 +47,13 @@ head_exactly d mem =
 pub spaces_exactly : (d : Numbers) (mem : List ℕ) → (spaces_test d mem ≡ true)
     ↔ ((s : ℕ) → s < d.spaces → SoundSpace d.most (view d (space s) mem))
 unfolding spaces_test
-spaces_exactly d mem = simp (all_exactly, space_exactly) Iff·rfl
+spaces_exactly d mem = simp (all_exactly, space_exactly) Iff.rfl
 
 pub queues_exactly : (d : Numbers) (mem : List ℕ) → (queues_test d mem ≡ true)
     ↔ (((q : ℕ) → q < d.queues → 0 < lengths d mem q → SoundQueue (view d (queue q) mem))
     × PidsDiffer d.queues (pids d mem) (lengths d mem))
 unfolding queues_test
-queues_exactly d mem = simp (both_exactly, pids_exactly d.queues (pids d mem) (lengths d mem), all_exactly, queue_exactly) Iff·rfl
+queues_exactly d mem = simp (both_exactly, pids_exactly d.queues (pids d mem) (lengths d mem), all_exactly, queue_exactly) Iff.rfl
 
 pub sound_exactly : (mem : List ℕ) → (sound_test mem ≡ true) ↔ Sound mem
 unfolding sound_test holders_test ids_test registry_test logged_test log_test

@@ -1,4 +1,5 @@
 -- The exits of the look's tests of the head, in the words of the code.
+use mathlib.Core.Bool.{true}
 use mathlib.Core.Bool.{Bool, false, not}
 use mathlib.Core.List.{List}
 use mathlib.Core.Path.{◌≡◌, sym, ◌∙◌}
@@ -13,9 +14,9 @@ use Rattle.world.specs.Regions.{length_for}
 use Rattle.world.specs.declared.Numbers.{Numbers}
 use Rattle.world.proofs.Tests.{tests, over, within}
 
-module _ (d : Numbers) (r : Bool) (e : r ≡ in_range_test d) (t : not r ≡ false) where
+module _ (d : Numbers) (r : Bool) (e : r ≡ in_range_test d) (t : r ≡ true) where
   pub ranged : InRange d
-  ranged = in_range d (sym e ∙ not-false r t)
+  ranged = in_range d (sym e ∙ t)
 
 module _ (d : Numbers) (mem : List ℕ) (n : ℕ) (e : n ≡ length_for d) (b : Bool) where
   pub too_short : length mem < n → false ≡ both (leb (length_for d) (length mem)) b

@@ -1,4 +1,6 @@
 // The look over the memory that every call takes first: whether it is sound, by document 01's rules.
+#![tactic(auto)]
+
 ghost use Rattle.std.specs.Prelude.{◌≡◌, true, ◌+◌, ◌*◌, ◌<◌, ◌≤◌, length};
 ghost use Rattle.base.specs.Chain.{Chained};
 ghost use Rattle.registry.specs.Counts.{AtMost};
