@@ -8,8 +8,7 @@ use borrow.Author.Rules.{rules}
 use lib.ListN.{length}
 use Rattle.base.specs.Place.{last_of, place_of}
 use Rattle.base.specs.declared.distinct.Place.TheVariants.{At, Nowhere}
-use Rattle.base.proofs.distinct.place_of.Statement.{statement}
-use Rattle.base.proofs.distinct.place_of.Tie as tie
+use Rattle.base.proofs.distinct.place_of.Goals as goal
 
 module _ (xs : List ℕ) (word at : ℕ) (e : at ≡ last_of xs word (length xs)) where
   absent : at ≡ 0 → Nowhere ≡ place_of xs word
@@ -22,6 +21,8 @@ module _ (xs : List ℕ) (word at : ℕ) (e : at ≡ last_of xs word (length xs)
 
 ruleset laws = (rules, absent, present)
 
-pub place-of-spec : {M : Type 1} → statement M
-place-of-spec =
-    tie.close (tie.spec (λ c κs. search laws) (λ c κs. search laws) (λ c. search laws) (λ c. search laws) (λ c. search laws))
+pub returns-then-at-eq0 : goal.returns-then-at-eq0
+returns-then-at-eq0 c = search laws
+
+pub returns : goal.returns
+returns c = search laws

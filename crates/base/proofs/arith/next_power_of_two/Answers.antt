@@ -3,12 +3,10 @@ use mathlib.Core.Path.{◌≡◌, sym}
 use Prim.Native.Nat.{ℕ, ◌-◌, ◌*◌, ◌%◌, ◌^◌, ◌<◌, ◌≤◌}
 use native.Mathlib.Nat.{mod-eq_of_lt, one-mul}
 use native.Mathlib.Omega.{arith}
-use borrow.Author.Rules.{rules}
-use lib.Count.{count_leading_zeros, leading_le, leading_length}
+use lib.Count.{count_leading_zeros, leading_length}
 use lib.Pow.{pow_mono}
 use Rattle.base.specs.Arith.{next_power, next_of-zero, next_is}
-use Rattle.base.proofs.arith.next_power_of_two.Statement.{statement}
-use Rattle.base.proofs.arith.next_power_of_two.Tie as tie
+use Rattle.base.proofs.arith.next_power_of_two.Goals as goal
 
 -- How many bits n - 1 has.
 abbrev bits : ℕ → ℕ
@@ -29,16 +27,11 @@ module _ (n : ℕ) (pos : 0 < n) (small : n ≤ 2 ^ 63) where
       let word : 1 * 2 ^ bits n < 2 ^ 64 = omega (arith, around) in
       rw (mod-eq_of_lt word, one-mul) (sym (next_is n (bits n) around.0 around.1))
 
-returns : tie.Need-returns
-returns c = cc next_of-zero
+pub returns-then-n-eq0 : goal.returns-then-n-eq0
+returns-then-n-eq0 c = cc next_of-zero
 
-pub next-power-of-two-spec : {M : Type 1} → statement M
-next-power-of-two-spec =
-    tie.close
-    (tie.spec
-    returns
-    (λ c. search rules)
-    (λ c. leading_le 64 _)
-    (λ c. search rules)
-    (λ c. below c.before.args.n (omega arith) (omega arith))
-    (λ c. shifted c.before.args.n (omega arith) (omega arith)))
+pub overflow_shl-result : goal.overflow_shl-result
+overflow_shl-result c = below c.args.n (omega arith) (omega arith)
+
+pub returns : goal.returns
+returns c = shifted c.args.n (omega arith) (omega arith)

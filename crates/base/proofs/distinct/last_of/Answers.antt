@@ -1,5 +1,3 @@
--- `base::distinct::last_of` meets its contract. The walk's invariant: the last place that holds the word is below `at`, and the place
--- that `at` names is of the word's bucket. The measure is `at`, since a link goes down.
 use mathlib.Core.Path.{◌≡◌, refl, sym, ap, ◌∙◌}
 use mathlib.Core.Bool.{true}
 use mathlib.Core.List.{List}
@@ -14,14 +12,8 @@ use Rattle.base.specs.Below.{last}
 use Rattle.base.specs.LastLaws.{last_here, last_past, last_le, last_passes, last_last}
 use Rattle.base.specs.Chain.{bucket_of, in_bucket, Chained}
 use Rattle.base.specs.Place.{holds, last_of}
-use Rattle.base.proofs.distinct.last_of.Statement.{statement}
-use Rattle.base.proofs.distinct.last_of.Tie as tie
-
--- The walk for the word, of n buckets, among the places below j, is at the place before `at`, or at its end.
-record Walk (xs : List ℕ) (n j word at : ℕ) : Type 0 where
-  below : at ≤ j
-  left : last (holds xs word) at ≡ last (holds xs word) j
-  own : (k : ℕ) → at ≡ suc k → bucket_of n (get_or xs k 0) ≡ bucket_of n word
+use Rattle.base.proofs.distinct.last_of.Invariants.{Walk}
+use Rattle.base.proofs.distinct.last_of.Goals as goal
 
 -- What holds the word is of its bucket, so the walk may start from the bucket's last place below m.
 from : (xs : List ℕ) (n j word m at : ℕ) → m ≤ j → last (holds xs word) m ≡ last (holds xs word) j
@@ -36,7 +28,6 @@ from xs n j word m at l h e =
     }
 
 -- ---- the walk's turns, in the code's words
-
 module _ (xs heads prevs : List ℕ) (j word : ℕ) (chained : Chained xs heads prevs j) where
   starts : (b at : ℕ) → b ≡ bucket_of (length heads) word → b < length heads → at ≡ get_or heads b 0 → Walk xs (length heads) j word at
   starts b at e l h = from xs (length heads) j word j at (le_refl j) refl (h ∙ chained.head b l ∙ rw e refl)
@@ -66,17 +57,19 @@ module _ (xs heads prevs : List ℕ) (j word : ℕ) (chained : Chained xs heads 
       falls : (next : ℕ) → next ≡ get_or prevs (at - 1) 0 → next < at
       falls next e = omega (arith, link, last_le (in_bucket xs (length heads) (bucket_of (length heads) word)) (at - 1))
 
-abbrev invariant-loop : tie.invariant-loop
-invariant-loop xs heads prevs j word b at₀ at = Walk xs (length heads) j word at
-
-abbrev decreases-loop : tie.decreases-loop
-decreases-loop xs heads prevs j word b at₀ at = at
-
 ruleset laws = (rules, starts, ends, met, goes, falls)
 
-pub last-of-spec : {M : Type 1} → statement M
-last-of-spec =
-    tie.close
-    (tie.spec invariant-loop decreases-loop (λ c. search laws) (λ c. search laws) (λ c κs. search laws) (λ c. search laws) (λ c. search laws)
-    (λ c. search laws) (λ c. search laws) (λ c. search laws) (λ c. search laws) (λ c. search laws) (λ c κs. search laws) (λ c. search laws)
-    (λ c. search laws) (λ c. search laws))
+pub loop-at-init : goal.loop-at-init
+loop-at-init c = search laws
+
+pub returns-then-xs-k : goal.returns-then-xs-k
+returns-then-xs-k c = search laws
+
+pub loop-at-smaller : goal.loop-at-smaller
+loop-at-smaller c = search laws
+
+pub loop-at-preserved : goal.loop-at-preserved
+loop-at-preserved c = search laws
+
+pub returns : goal.returns
+returns c = search laws

@@ -1,34 +1,20 @@
--- `base::distinct::index` meets its contract. The loop's invariant: the places below j are chained, and their words all new.
--- The measure is what is left of the list.
 use mathlib.Core.Path.{◌≡◌, refl, sym, ◌∙◌}
-use mathlib.Core.Bool.{true, false, true≢false}
+use mathlib.Core.Bool.{true, false}
 use mathlib.Core.List.{List}
-use Prim.Native.Nat.{ℕ, ◌+◌, ◌-◌, ◌<◌, ◌≤◌}
+use Prim.Native.Nat.{ℕ, ◌+◌, ◌<◌, ◌≤◌}
 use native.Mathlib.Nat.{le_antisymm}
 use native.Mathlib.Omega.{arith}
 use borrow.Author.Rules.{rules}
 use borrow.Author.Tests.{eq-eqb, ne_eqb}
 use lib.Dec.{eqb}
 use lib.ListN.{length, get_or, set, length-set}
-use Rattle.base.specs.Below.{all}
 use Rattle.base.specs.AllLaws.{all_none, all_more, all_broken}
 use Rattle.base.specs.LastLaws.{last_none}
 use Rattle.base.specs.Distinct.{is_new, differ_test, all_different}
 use Rattle.base.specs.Chain.{bucket_of, Chained, chained_more}
 use Rattle.base.specs.Place.{holds, last_of}
-use Rattle.base.proofs.distinct.index.Statement.{statement}
-use Rattle.base.proofs.distinct.index.Tie as tie
-
-abbrev words : List ℕ → ℕ → ℕ
-words xs k = get_or xs k 0
-
--- The places below j are done; heads₀ and prevs₀ are the memory for the index as it was lent.
-record Done (xs heads₀ prevs₀ heads prevs : List ℕ) (j : ℕ) : Type 0 where
-  inside : j ≤ length xs
-  chained : Chained xs heads prevs j
-  same_heads : length heads ≡ length heads₀
-  same_prevs : length prevs ≡ length prevs₀
-  new : all j (is_new (words xs)) ≡ true
+use Rattle.base.proofs.distinct.index.Invariants.{words, Done}
+use Rattle.base.proofs.distinct.index.Goals as goal
 
 starts : (xs heads prevs : List ℕ) → Chained xs heads prevs 0 → Done xs heads prevs heads prevs 0
 starts xs heads prevs chained =
@@ -65,18 +51,16 @@ module _ (xs heads₀ prevs₀ heads prevs : List ℕ) (j : ℕ) (done : Done xs
     whole : Chained xs heads prevs (length xs)
     whole = rw end at done.chained
 
-abbrev invariant-loop : tie.invariant-loop
-invariant-loop xs heads₀ prevs₀ j₀ heads prevs j = Done xs heads₀ prevs₀ heads prevs j
-
-abbrev decreases-loop : tie.decreases-loop
-decreases-loop xs heads₀ prevs₀ j₀ heads prevs j = length xs - j
-
 ruleset laws = (rules, starts, goes, fails, ends, whole)
 
-pub index-spec : {M : Type 1} → statement M
-index-spec =
-    tie.close
-    (tie.spec invariant-loop decreases-loop (λ c. search laws) (λ c. search laws) (λ c. search laws) (λ c κs. search laws) (λ c κs. search laws)
-    (λ c. search laws) (λ c. search laws) (λ c. (search laws, λ e. absurd (true≢false (sym e)))) (λ c. search laws) (λ c. search laws)
-    (λ c. search laws) (λ c. search laws) (λ c. search laws) (λ c. search laws) (λ c. search laws) (λ c. search laws) (λ c. search laws)
-    (λ c. search laws) (λ c. search laws) (λ c. search laws) (λ c. search laws) (λ c. (search laws, λ e. search laws)))
+pub loop-j-init : goal.loop-j-init
+loop-j-init c = search laws
+
+pub returns-then-last_of-gt0-clause-value : goal.returns-then-last_of-gt0-clause-value
+returns-then-last_of-gt0-clause-value c = search laws
+
+pub loop-j-preserved : goal.loop-j-preserved
+loop-j-preserved c = search laws
+
+pub returns-clause-value : goal.returns-clause-value
+returns-clause-value c = search laws
