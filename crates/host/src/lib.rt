@@ -3,5 +3,5 @@
 #![tactic(auto)]
 
 mod manager;
-mod revocation;
+mod revoking;
 mod stream;

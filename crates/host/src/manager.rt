@@ -4,10 +4,10 @@ ghost use Rattle.std.specs.Prelude.{◌≡◌};
 ghost use Rattle.delegation_calls.specs.Delegation.{delegate_out};
 ghost use Rattle.manager_calls.specs.Calls.{create_out, delete_out, check_out, is_valid_out, stats_out, children_out, tree_stats_out, census_out};
 ghost use Rattle.host.specs.Manager.{manager_answer, tree_answer};
-ghost use Rattle.host_spaces.specs.Replies.{call_answer, told, area_answer};
+ghost use Rattle.host_replies.specs.Replies.{call_answer, told, area_answer};
 
 use delegation_calls::delegate;
-use host_spaces::replies::{CallAnswer, answered};
+use host_replies::{CallAnswer, answered};
 use token::{CapabilityToken, Rights};
 
 // The answer's number, and the statistics of the manager.

@@ -1,9 +1,9 @@
 // The request stream for a host: a whole run over records that the host has read, on memory that it lends, as the program `stream` does it.
 ghost use Rattle.std.specs.Prelude.{◌≡◌};
 ghost use Rattle.request_run.specs.Run.{run_out};
-ghost use Rattle.host_spaces.specs.Replies.{told, area_answer};
+ghost use Rattle.host_replies.specs.Replies.{told, area_answer};
 
-use host_spaces::replies::{CallAnswer, answered};
+use host_replies::{CallAnswer, answered};
 
 // The value is how many bytes of `lines` are written.
 #[unsafe(no_mangle)]

@@ -3,10 +3,10 @@
 ghost use Rattle.std.specs.Prelude.{◌≡◌};
 ghost use Rattle.space_calls.specs.Calls.{insert_call_out, remove_out, increment_out, clear_out, revoke_all_out, copy_out, alloc_out, create_out, revoke_out};
 ghost use Rattle.space_reads.specs.Calls.{used_out, quota_out, capacity_out, generation_out, stats_out, lookup_out, lookup_entry_out, check_rights_out, get_entry_out, nth_entry_out};
-ghost use Rattle.host_spaces.specs.Replies.{call_answer, told};
+ghost use Rattle.host_replies.specs.Replies.{call_answer, told};
 ghost use Rattle.host_spaces.specs.Spaces.{entry_answer, stats_answer};
 
-use super::replies::{CallAnswer, answered};
+use host_replies::{CallAnswer, answered};
 use space_reads::EntryReply;
 use token::{CapabilityToken, Rights};
 

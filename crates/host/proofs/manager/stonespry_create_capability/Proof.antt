@@ -1,6 +1,6 @@
 -- `stonespry_create_capability` meets its contract: the call's reply, seen by `answered`, and its memory.
 use borrow.Author.Rules.{rules}
-use Rattle.host_spaces.specs.RepliesLaws.{seen_so}
+use Rattle.host_replies.specs.RepliesLaws.{seen_so}
 use Rattle.host.proofs.manager.stonespry_create_capability.Statement.{statement}
 use Rattle.host.proofs.manager.stonespry_create_capability.Tie as tie
 

@@ -1,6 +1,6 @@
 -- `stonespry_delete` meets its contract: the call's reply, seen by `answered`, and its memory.
 use borrow.Author.Rules.{rules}
-use Rattle.host_spaces.specs.RepliesLaws.{seen_so}
+use Rattle.host_replies.specs.RepliesLaws.{seen_so}
 use Rattle.host.proofs.manager.stonespry_delete.Statement.{statement}
 use Rattle.host.proofs.manager.stonespry_delete.Tie as tie
 

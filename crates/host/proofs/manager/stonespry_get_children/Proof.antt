@@ -1,6 +1,6 @@
 -- `stonespry_get_children` meets its contract: the call's reply, seen by `answered`, and the area.
 use borrow.Author.Rules.{rules}
-use Rattle.host_spaces.specs.RepliesLaws.{seen_so}
+use Rattle.host_replies.specs.RepliesLaws.{seen_so}
 use Rattle.host.proofs.manager.stonespry_get_children.Statement.{statement}
 use Rattle.host.proofs.manager.stonespry_get_children.Tie as tie
 

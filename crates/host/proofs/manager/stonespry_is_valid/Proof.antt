@@ -1,7 +1,7 @@
 -- `stonespry_is_valid` meets its contract: the call's reply, seen by `answered`.
 use mathlib.Core.Path.{ap, ◌∙◌}
 use borrow.Author.Rules.{rules}
-use Rattle.host_spaces.specs.Replies.{call_answer}
+use Rattle.host_replies.specs.Replies.{call_answer}
 use Rattle.host.proofs.manager.stonespry_is_valid.Statement.{statement}
 use Rattle.host.proofs.manager.stonespry_is_valid.Tie as tie
 

@@ -1,6 +1,6 @@
 -- `stonespry_run` meets its contract: the run's reply, seen by `answered`, the lines and the memory.
 use borrow.Author.Rules.{rules}
-use Rattle.host_spaces.specs.RepliesLaws.{seen_so}
+use Rattle.host_replies.specs.RepliesLaws.{seen_so}
 use Rattle.host.proofs.stream.stonespry_run.Statement.{statement}
 use Rattle.host.proofs.stream.stonespry_run.Tie as tie
 

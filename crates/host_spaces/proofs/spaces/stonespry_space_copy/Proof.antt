@@ -1,6 +1,6 @@
 -- `stonespry_space_copy` meets its contract: the call's reply, seen by `answered`, and its memory.
 use borrow.Author.Rules.{rules}
-use Rattle.host_spaces.specs.RepliesLaws.{seen_so}
+use Rattle.host_replies.specs.RepliesLaws.{seen_so}
 use Rattle.host_spaces.proofs.spaces.stonespry_space_copy.Statement.{statement}
 use Rattle.host_spaces.proofs.spaces.stonespry_space_copy.Tie as tie
 

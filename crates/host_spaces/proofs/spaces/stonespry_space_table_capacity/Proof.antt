@@ -1,7 +1,7 @@
 -- `stonespry_space_table_capacity` meets its contract: the call's reply, seen by `answered`.
 use mathlib.Core.Path.{ap, ◌∙◌}
 use borrow.Author.Rules.{rules}
-use Rattle.host_spaces.specs.Replies.{call_answer}
+use Rattle.host_replies.specs.Replies.{call_answer}
 use Rattle.host_spaces.proofs.spaces.stonespry_space_table_capacity.Statement.{statement}
 use Rattle.host_spaces.proofs.spaces.stonespry_space_table_capacity.Tie as tie
 

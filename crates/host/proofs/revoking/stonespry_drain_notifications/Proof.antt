@@ -1,0 +1,10 @@
+-- `stonespry_drain_notifications` meets its contract: the call's reply, seen by `answered`, the area and the memory.
+use borrow.Author.Rules.{rules}
+use Rattle.host_replies.specs.RepliesLaws.{seen_so}
+use Rattle.host.proofs.revoking.stonespry_drain_notifications.Statement.{statement}
+use Rattle.host.proofs.revoking.stonespry_drain_notifications.Tie as tie
+
+pub stonespry-drain-notifications-spec : {M : Type 1} → statement M
+stonespry-drain-notifications-spec =
+    tie.close
+    (tie.spec (λ c κs. search rules) (λ c κs. search rules) (λ c. search rules) (λ c. search rules) (λ c. search seen_so))

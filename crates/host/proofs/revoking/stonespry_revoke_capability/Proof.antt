@@ -1,0 +1,10 @@
+-- `stonespry_revoke_capability` meets its contract: the call's reply, seen by `answered`, and its memory.
+use borrow.Author.Rules.{rules}
+use Rattle.host_replies.specs.RepliesLaws.{seen_so}
+use Rattle.host.proofs.revoking.stonespry_revoke_capability.Statement.{statement}
+use Rattle.host.proofs.revoking.stonespry_revoke_capability.Tie as tie
+
+pub stonespry-revoke-capability-spec : {M : Type 1} → statement M
+stonespry-revoke-capability-spec =
+    tie.close
+    (tie.spec (λ c κs. search rules) (λ c κs. search rules) (λ c. search rules) (λ c. search seen_so))
