@@ -4,7 +4,6 @@ use mathlib.Core.Bool.{not}
 use mathlib.Core.Path.{◌≡◌, ap}
 use native.Mathlib.Nat.{zero-mul}
 use native.Mathlib.Omega.{arith}
-use borrow.Author.Rules.{rules}
 use borrow.Author.Tests.{eq-eqb, ne_eqb}
 use lib.Bits.{bit_and}
 use lib.Dec.{eqb}
@@ -12,8 +11,7 @@ use lib.Pow.{pow_pos}
 use Rattle.token.specs.Bits.{bit}
 use Rattle.token.specs.BitsLaws.{of_bit, and_one}
 use Rattle.token.specs.Flags.{bit_of}
-use Rattle.token.proofs.flags.CapabilityFlags.has.Statement.{statement}
-use Rattle.token.proofs.flags.CapabilityFlags.has.Tie as tie
+use Rattle.token.proofs.flags.CapabilityFlags.has.Goals as goal
 
 masked : (flags i : ℕ) → not (eqb (bit_and flags (2 ^ i)) 0) ≡ eqb (bit flags i) 1
 masked flags i =
@@ -23,8 +21,5 @@ masked flags i =
     (ap not (ne_eqb (1 * 2 ^ i) 0 (omega (arith, pow_pos i))))
     flags i)
 
-returns : tie.Need-returns
-returns c = rw c.number.ensures (masked c.before.args.flags (bit_of c.before.args.perm))
-
-pub has-spec : {M : Type 1} → statement M
-has-spec = tie.close (tie.spec (λ c κs. search rules) returns)
+pub returns : goal.returns
+returns c = rw c.number.ensures (masked c.args.flags (bit_of c.args.perm))

@@ -1,12 +1,9 @@
--- `CapabilityFlags::combine` meets its contract. The loop's invariant: the flags so far and the numbers that are left give
--- the answer. The measure is how many are left.
-use Prim.Native.Nat.{ℕ, ◌+◌, ◌-◌, ◌^◌, ◌≤◌, ◌<◌}
+use Prim.Native.Nat.{ℕ, ◌+◌, ◌^◌, ◌≤◌, ◌<◌}
 use mathlib.Core.List.{List}
 use mathlib.Core.Path.{◌≡◌, refl}
 use borrow.Author.Rules.{rules}
 use lib.Bits.{bit_or, or_zero_r}
 use lib.ListN.{length, get_or, drop, drop_of_length-le}
-use Rattle.base.specs.Choose.{pick}
 use Rattle.base.specs.Rest.{drop_next}
 use Rattle.answers.specs.declared.Answer.{Answer}
 use Rattle.answers.specs.declared.Answer.TheVariants.{BadField}
@@ -16,14 +13,10 @@ use Rattle.token.specs.declared.flags.Combined.TheVariants.{Flags}
 use Rattle.token.specs.declared.flags.Named.{Named}
 use Rattle.token.specs.declared.flags.Named.TheVariants.{Flag}
 use Rattle.token.specs.BitsLaws.{or_assoc}
-use Rattle.token.specs.Flags.{bit_of, named, all_flags, union_of, combined}
+use Rattle.token.specs.Flags.{bit_of, named, combined}
 use Rattle.token.specs.FlagsLaws.{named_by_its_number}
-use Rattle.token.proofs.flags.CapabilityFlags.combine.Statement.{statement}
-use Rattle.token.proofs.flags.CapabilityFlags.combine.Tie as tie
-
--- the answer, from the flags so far and the numbers that are left
-from : ℕ → List ℕ → Combined
-from flags rest = pick (all_flags rest) (Flags (bit_or flags (union_of rest))) (Combined.Refused BadField)
+use Rattle.token.proofs.flags.CapabilityFlags.combine.Invariants.{from}
+use Rattle.token.proofs.flags.CapabilityFlags.combine.Goals as goal
 
 starts : (ns : List ℕ) → from 0 (drop 0 ns) ≡ combined ns
 unfolding from
@@ -49,16 +42,16 @@ ends : (ns : List ℕ) (flags i : ℕ) (r : Combined) → length ns ≤ i → fr
 unfolding from
 ends ns flags i r h left = rw (drop_of_length-le ns h, or_zero_r flags) at left
 
-abbrev invariant-loop : tie.invariant-loop
-invariant-loop numbers flags₀ i₀ flags i = (i ≤ length numbers) × (from flags (drop i numbers) ≡ combined numbers)
-
-abbrev decreases-loop : tie.decreases-loop
-decreases-loop numbers flags₀ i₀ flags i = length numbers - i
-
 ruleset laws = (rules, starts, goes, refuses, ends)
 
-pub combine-spec : {M : Type 1} → statement M
-combine-spec =
-    tie.close
-    (tie.spec invariant-loop decreases-loop (λ c. search laws) (λ c. search laws) (λ c κs. search laws) (λ c. search laws) (λ c. search laws)
-    (λ c. search laws) (λ c κs. search laws) (λ c. search laws) (λ c. search laws) (λ c. search laws) (λ c. search laws))
+pub loop-i-init : goal.loop-i-init
+loop-i-init c = search laws
+
+pub returns-in_default : goal.returns-in_default
+returns-in_default c = search laws
+
+pub loop-i-preserved : goal.loop-i-preserved
+loop-i-preserved c = search laws
+
+pub returns : goal.returns
+returns c = search laws
