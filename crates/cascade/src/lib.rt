@@ -75,8 +75,7 @@ fn revoke_listed(
     listed: &[u64],
 ) -> Reply
     requires { SoundAt d mem.old × AllBelow d.places order.now × (0 < length ids.now) × (length pairs.now ≤ 4096) }
-    ensures {
-        record { reply = result; memory = mem.new }
+    ensures { record { reply = result; memory = mem.new }
         ≡ carrying_out d order.now ids.now pairs.now time listed.now mem.old }
 {
     if d.pairs < mem[LOGGED] as usize + pairs.len() {

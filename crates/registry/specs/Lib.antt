@@ -13,7 +13,6 @@ pub mod Registering
 pub mod Without
 pub mod RegisteringLaws
 pub mod UnregisteringLaws
-pub mod CollectionLaws
 pub mod Children
 pub mod ChildrenLaws
 pub mod ChildLists

@@ -48,8 +48,7 @@ pub fn epoch(mem: &[u64]) -> Reply
 // The ids under place r, breadth first, to the front of the area.
 fn list_under(mem: &[u64], d: Numbers, r: usize, area: &mut [u64]) -> Reply
     requires { SoundAt d mem.now × (r < registered_of mem.now) }
-    ensures {
-        record { reply = result; area = area.new }
+    ensures { record { reply = result; area = area.new }
         ≡ into_area (descendants d mem.now r) area.old }
 {
     let mut order = [0u16; 4096];

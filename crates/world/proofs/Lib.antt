@@ -2,3 +2,4 @@
 pub mod Tests
 pub mod Starts
 pub mod Opening
+pub mod OpenTold

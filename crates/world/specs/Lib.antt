@@ -5,7 +5,6 @@ pub mod Layout
 pub mod Views
 pub mod Each
 pub mod Open
-pub mod OpenTold
 pub mod Opened
 pub mod Sound
 pub mod OpenedSound

@@ -82,23 +82,3 @@ module _ (d : Numbers) (quotas : List ℕ) where
       both_make (in_range_test d) _ (in_range_passes d ok.in_range)
       (both_make counted _ (eq-eqb (length quotas) d.spaces ok.one_each)
       (all_make (length quotas) fit (λ s l. le-leb (get_or quotas s 0) d.most (ok.quota s (omega (arith, ok.one_each))))))
-
--- ---- the three answers, in order
-
-module _ (d : Numbers) (quotas mem : List ℕ) where
-  pub opening_21 : record_test d quotas ≡ false → opening d quotas mem ≡ record { answer = BadField; memory = mem }
-  unfolding opening
-  opening_21 h = when_yes (not (record_test d quotas)) _ _ (ap not h)
-
-  pub opening_26 : record_test d quotas ≡ true → length mem < length_for d → opening d quotas mem ≡ record { answer = BadWorld; memory = mem }
-  unfolding opening
-  opening_26 h l =
-      when_no (not (record_test d quotas)) _ _ (ap not h)
-      ∙ when_yes (not (leb (length_for d) (length mem))) _ _ (ap not (lt-leb (length_for d) (length mem) l))
-
-  pub opening_0 : record_test d quotas ≡ true → length_for d ≤ length mem
-      → opening d quotas mem ≡ record { answer = Done; memory = opened d quotas mem }
-  unfolding opening
-  opening_0 h l =
-      when_no (not (record_test d quotas)) _ _ (ap not h)
-      ∙ when_no (not (leb (length_for d) (length mem))) _ _ (ap not (le-leb (length_for d) (length mem) l))

@@ -11,7 +11,7 @@ use lib.ListN.{length}
 use Rattle.answers.specs.Number.{number_of}
 use Rattle.answers.specs.declared.Answer.TheVariants.{Done}
 use Rattle.world.specs.Open.{OpenOut, opened, opening, good_test}
-use Rattle.world.specs.OpenTold.{opening_by_cases, open_unchanged}
+use Rattle.world.proofs.OpenTold.{opening_by_cases, open_unchanged}
 use Rattle.world.specs.Opened.{opened_length, opened_past, opened_numbers}
 use Rattle.world.specs.OpenedSound.{opened_sound}
 use Rattle.world.specs.Regions.{length_for}

@@ -12,7 +12,7 @@ use lib.ListN.{length}
 use Rattle.answers.specs.Number.{number_of}
 use Rattle.answers.specs.declared.Answer.TheVariants.{Done}
 use Rattle.base.specs.Exactly.{eqb_exactly, both_exactly}
-use Rattle.registry.specs.CollectionLaws.{collected_exactly}
+use Rattle.registry.proofs.CollectionLaws.{collected_exactly}
 use Rattle.registry.specs.Registering.{unneeded}
 use Rattle.registry.specs.Words.{revoked}
 use Rattle.space.specs.Lookup.{looked_up}

@@ -4,7 +4,7 @@ use mathlib.Core.Path.{◌≡◌, refl, ap, ◌∙◌}
 use Prim.Native.Nat.{ℕ, ◌+◌, ◌*◌, ◌^◌, ◌≤◌, ◌<◌}
 use native.Mathlib.Omega.{arith}
 use lib.ListN.{length}
-use Rattle.registry.specs.CollectionLaws.{collected_before}
+use Rattle.registry.proofs.CollectionLaws.{collected_before}
 use Rattle.registry.specs.RegisteringLaws.{registered_other, list_given_only}
 use Rattle.registry.specs.StatesOnly.{same_recycled}
 use Rattle.registry.specs.UnregisteringLaws.{unregistered_before}

@@ -10,7 +10,7 @@ use borrow.Author.Tests.{ne_eqb}
 use lib.ListN.{length}
 use Rattle.base.specs.Below.{one}
 use Rattle.base.specs.SumLaws.{sum_const_zero}
-use Rattle.registry.specs.CollectionLaws.{collected_parent}
+use Rattle.registry.proofs.CollectionLaws.{collected_parent}
 use Rattle.registry.specs.HoldersLaws.{place_holds, place_is}
 use Rattle.registry.specs.RegisteringLaws.{Parent, no_parent, registered_new, list_given_only, list_given_state}
 use Rattle.registry.specs.StatesOnly.{same_ids, same_links}

@@ -5,7 +5,7 @@ use mathlib.Core.Logic.{by_cases}
 use native.Mathlib.Decide.{ℕ_discrete}
 use Rattle.answers.specs.Number.{number_of}
 use Rattle.base.specs.Choose.{pick}
-use Rattle.registry.specs.CollectionLaws.{collects}
+use Rattle.registry.proofs.CollectionLaws.{collects}
 use Rattle.registry.specs.HoldersLaws.{HoldersOnly, held_only}
 use Rattle.registry.specs.Ids.{first_taken}
 use Rattle.registry.specs.IdsLaws.{length_taken}

@@ -4,7 +4,8 @@ use mathlib.Core.Path.{◌≡◌, sym, ◌∙◌}
 use native.Mathlib.Omega.{arith}
 use borrow.Author.Rules.{rules}
 use borrow.Author.Tests.{not-true, not-false}
-use Rattle.world.specs.Open.{record_test, good, opening_21, opening_26, opening_0}
+use Rattle.world.specs.Open.{record_test, good}
+use Rattle.world.proofs.OpenTold.{opening_21, opening_26, opening_0}
 use Rattle.world.proofs.open.open.Statement.{statement}
 use Rattle.world.proofs.open.open.Tie as tie
 

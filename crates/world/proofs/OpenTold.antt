@@ -1,16 +1,36 @@
 -- When each answer of an opening is given: 21 exactly for a record that is not good, 26 exactly for a good one and a short length, 0
 -- exactly in the rest. And a refused opening changes nothing.
-use Rattle.std.specs.Prelude.{Bool, true, false, List, ◌↔◌, ◌≢◌, ◌≡◌, refl, ℕ, ◌≤◌, ◌<◌, length}
+use borrow.Author.Tests.{le-leb, lt-leb}
+use Rattle.std.specs.Prelude.{Bool, true, false, not, leb, List, ◌↔◌, ◌≢◌, ◌≡◌, refl, ℕ, ◌≤◌, ◌<◌, length}
 use Rattle.std.proofs.Common.{true≢false, sym, ap, subst, ◌∙◌, arith}
 use Rattle.std.proofs.Math.Logic.{by_cases}
 use Rattle.std.proofs.Math.Decide.{dec_lt}
 use Rattle.answers.specs.Number.{number_of}
 use Rattle.answers.specs.declared.Answer.TheVariants.{Done, BadField, BadWorld}
-use Rattle.world.specs.Open.{OpenOut, Good, record_test, opened, opening, good, good_test, opening_21, opening_26, opening_0}
+use Rattle.base.specs.Choose.{when_yes, when_no}
+use Rattle.world.specs.Open.{OpenOut, Good, record_test, opened, opening, good, good_test}
 use Rattle.world.specs.Regions.{length_for}
 use Rattle.world.specs.declared.Numbers.{Numbers}
 
 module _ (d : Numbers) (quotas mem : List ℕ) where
+  -- The three answers, in order.
+  pub opening_21 : record_test d quotas ≡ false → opening d quotas mem ≡ record { answer = BadField; memory = mem }
+  unfolding opening
+  opening_21 h = when_yes (not (record_test d quotas)) _ _ (ap not h)
+
+  pub opening_26 : record_test d quotas ≡ true → length mem < length_for d → opening d quotas mem ≡ record { answer = BadWorld; memory = mem }
+  unfolding opening
+  opening_26 h l =
+      when_no (not (record_test d quotas)) _ _ (ap not h)
+      ∙ when_yes (not (leb (length_for d) (length mem))) _ _ (ap not (lt-leb (length_for d) (length mem) l))
+
+  pub opening_0 : record_test d quotas ≡ true → length_for d ≤ length mem
+      → opening d quotas mem ≡ record { answer = Done; memory = opened d quotas mem }
+  unfolding opening
+  opening_0 h l =
+      when_no (not (record_test d quotas)) _ _ (ap not h)
+      ∙ when_no (not (leb (length_for d) (length mem))) _ _ (ap not (le-leb (length_for d) (length mem) l))
+
   -- What holds of each of the three ways holds of the opening.
   pub opening_by_cases :
       (P : OpenOut → Type 0) → (¬ Good d quotas → P (record { answer = BadField; memory = mem }))
