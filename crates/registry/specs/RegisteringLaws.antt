@@ -16,7 +16,7 @@ use Rattle.registry.specs.Words.{id_at, object_at, state_at, link_at, recycled_a
 use Rattle.registry.specs.Sound.{Linked, Short}
 use Rattle.registry.specs.Counts.{children_more}
 use Rattle.registry.specs.Holders.{place_of}
-use Rattle.registry.specs.Registering.{registered, with_list, list_given, unregistered}
+use Rattle.registry.specs.Registering.{registered, with_list, list_given}
 use Rattle.registry.specs.Rules.{RegisteredRules, RecycledRules, RegistryRules, Same, issued_same, ascend_same, children_same, cascaded_same}
 use Rattle.registry.specs.StatesOnly.{StatesOnly, ByAt, by_keeps, states_only_one, same_ids, same_links, states_only_registered, states_only_recycled}
 

@@ -14,7 +14,7 @@ use Rattle.base.specs.Shift.{shifted_down, length-shifted_down, shifted_down_bef
 use Rattle.registry.specs.Words.{id_at, object_at, state_at, link_at, recycled_at, child_of, children}
 use Rattle.registry.specs.Sound.{Linked}
 use Rattle.registry.specs.Holders.{place_of}
-use Rattle.registry.specs.Registering.{registered, relinked, links_mended, unregistered}
+use Rattle.registry.specs.Registering.{relinked, links_mended, unregistered}
 use Rattle.registry.specs.Without.{past, rank, Without, past_below, past_from, past_cases, past_le, past_apart, past_rank, sum_without, among_without, differ_without, left_out}
 use Rattle.registry.specs.Rules.{RegisteredRules, RecycledRules, RegistryRules, Same, issued_same, ascend_same}
 use Rattle.registry.specs.RegisteringLaws.{SamePlaces, registered_among}

@@ -1,0 +1,18 @@
+use Rattle.std.proofs.Common.{rules}
+use Rattle.base.specs.FirstLaws.{some_up}
+use Rattle.registry.proofs.Naming.{names_it, names_other}
+use Rattle.registry.proofs.registering.has_child.Goals as goal
+
+ruleset laws = (rules, some_up, names_it, names_other)
+
+pub loop-j-init : goal.loop-j-init
+loop-j-init c = search laws
+
+pub returns-then-rg-places : goal.returns-then-rg-places
+returns-then-rg-places c = search laws
+
+pub loop-j-preserved : goal.loop-j-preserved
+loop-j-preserved c = search laws
+
+pub returns : goal.returns
+returns c = search laws
