@@ -2,13 +2,11 @@
 use mathlib.Core.Path.{◌≡◌}
 use mathlib.Core.List.{List}
 use Prim.Native.Nat.{ℕ, ◌+◌, ◌%◌, ◌<◌, ◌≤◌}
-use borrow.Author.Rules.{rules}
 use borrow.Author.Tests.{lt-ltb, le-ltb}
 use lib.ListN.{set}
 use Rattle.revocation.specs.Words.{first_of, length_of, ring_at}
 use Rattle.revocation.specs.Queue.{notice_set, pushed}
-use Rattle.revocation.proofs.queues.push.Statement.{statement}
-use Rattle.revocation.proofs.queues.push.Tie as tie
+use Rattle.revocation.proofs.queues.push.Goals as goal
 
 module _ (id time reason : ℕ) (qu after : List ℕ) where
   behind : after ≡ notice_set (ring_at qu (length_of qu)) id time reason qu → length_of qu < 256
@@ -21,10 +19,8 @@ module _ (id time reason : ℕ) (qu after : List ℕ) where
   unfolding pushed
   over e full = rw (le-ltb (length_of qu) 256 full, e)
 
-pub push_spec : {M : Type 1} → statement M
-push_spec =
-    tie.close
-    (tie.spec (λ c. search rules) (λ c. search rules) (λ c. search rules) (λ c κs. search rules) (λ c. search rules) (λ c. search rules)
-    (λ c. search rules) (λ c. behind _ _ _ _ _ c.before.before.set-notice.ensures c.before.before.before.before.if1.true)
-    (λ c κs. search rules) (λ c. search rules) (λ c. search rules) (λ c. search rules)
-    (λ c. over _ _ _ _ _ c.before.before.set-notice2.ensures c.before.before.before.before.if1.false))
+pub returns-then-length-lt256 : goal.returns-then-length-lt256
+returns-then-length-lt256 c = behind _ _ _ _ _ c.set_notice.ensures c.if-length-lt256.true
+
+pub returns : goal.returns
+returns c = over _ _ _ _ _ c.set_notice-2.ensures c.if-length-lt256.false

@@ -1,5 +1,3 @@
--- `revocation::queues::copy_notices` meets its contract: with the notices from the i-th on written behind those before, the area becomes
--- the answer.
 use mathlib.Core.Path.{◌≡◌, refl, ◌∙◌}
 use mathlib.Core.List.{List}
 use Prim.Native.Nat.{ℕ, suc, ◌+◌, ◌-◌, ◌*◌, ◌<◌, ◌≤◌}
@@ -12,14 +10,8 @@ use Rattle.base.specs.Written.{written, written_sets}
 use Rattle.revocation.specs.Words.{length_of}
 use Rattle.revocation.specs.Queue.{notices_from, notices}
 use Rattle.revocation.specs.NoticesLaws.{length_notices}
-use Rattle.revocation.proofs.queues.copy_notices.Statement.{statement}
-use Rattle.revocation.proofs.queues.copy_notices.Tie as tie
-
--- The notices from the i-th on are left to copy; area₀ is the area as it was lent.
-record Copying (qu area₀ area : List ℕ) (i : ℕ) : Type 0 where
-  inside : i ≤ length_of qu
-  same : length area ≡ length area₀
-  answer : sets area (3 * i) (notices_from qu i (length_of qu - i)) ≡ written (notices qu) area₀
+use Rattle.revocation.proofs.queues.copy_notices.Invariants.{Copying}
+use Rattle.revocation.proofs.queues.copy_notices.Goals as goal
 
 starts : (qu area : List ℕ) → 3 * length_of qu ≤ length area → Copying qu area area 0
 unfolding notices
@@ -48,16 +40,13 @@ module _ (qu area₀ area : List ℕ) (i : ℕ) (copying : Copying qu area₀ ar
   unfolding notices_from
   ends u = let none : length_of qu - i ≡ 0 = omega arith in rw none at copying.answer
 
-abbrev invariant-loop : tie.invariant-loop
-invariant-loop qu area₀ count i₀ area i = Copying qu area₀ area i
-
-abbrev decreases-loop : tie.decreases-loop
-decreases-loop qu area₀ count i₀ area i = length_of qu - i
-
 ruleset laws = (rules, starts, room, goes, ends)
 
-pub copy-notices-spec : {M : Type 1} → statement M
-copy-notices-spec =
-    tie.close
-    (tie.spec invariant-loop decreases-loop (λ c. search laws) (λ c. search laws) (λ c κs. search laws) (λ c. search laws) (λ c. search laws)
-    (λ c. search laws) (λ c. search laws) (λ c. search laws))
+pub loop-i-init : goal.loop-i-init
+loop-i-init c = search laws
+
+pub loop-i-preserved : goal.loop-i-preserved
+loop-i-preserved c = search laws
+
+pub returns : goal.returns
+returns c = search laws

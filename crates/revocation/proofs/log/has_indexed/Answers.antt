@@ -3,7 +3,6 @@ use mathlib.Core.Path.{◌≡◌, sym, ap, ◌∙◌}
 use mathlib.Core.Bool.{true, false, not, true≢false}
 use mathlib.Core.List.{List}
 use Prim.Native.Nat.{ℕ, ◌<◌}
-use borrow.Author.Rules.{rules}
 use borrow.Author.Tests.{eq-eqb, not-true}
 use lib.ListN.{length, get_or}
 use Rattle.base.specs.Below.{all}
@@ -13,8 +12,7 @@ use Rattle.base.specs.declared.distinct.Place.{Place}
 use Rattle.base.specs.declared.distinct.Place.TheVariants.{At, Nowhere}
 use Rattle.revocation.specs.Log.{log_has}
 use Rattle.revocation.specs.LogLaws.{has_exactly, lacks_exactly}
-use Rattle.revocation.proofs.log.has_indexed.Statement.{statement}
-use Rattle.revocation.proofs.log.has_indexed.Tie as tie
+use Rattle.revocation.proofs.log.has_indexed.Goals as goal
 
 module _ (lg : List ℕ) (pair : ℕ) (p : Place) (found : p ≡ place_of lg pair) where
   present : (k : ℕ) → p ≡ At k → true ≡ log_has (length lg) lg pair
@@ -27,12 +25,8 @@ module _ (lg : List ℕ) (pair : ℕ) (p : Place) (found : p ≡ place_of lg pai
       λ k l h. true≢false (sym h ∙ not-true (holds lg pair k) (all_at (length lg) (λ k. not (holds lg pair k)) unlike k l)) in
       sym ((lacks_exactly (length lg) lg pair).1 (λ (k, (l, e)). each k l (eq-eqb (get_or lg k 0) pair e)))
 
-pub has-indexed-spec : {M : Type 1} → statement M
-has-indexed-spec =
-    tie.close
-    (tie.spec
-    (λ c κs. search rules)
-    (λ c. search rules)
-    (λ c. search rules)
-    (λ c. present _ _ _ c.before.before.place-of.ensures _ c.enum_told.given.1)
-    (λ c. absent _ _ _ c.before.before.place-of.ensures c.enum-told2.given.1))
+pub returns-in-At : goal.returns-in-At
+returns-in-At c = present _ _ _ c.place_of.ensures _ c.in-At.is
+
+pub returns-in-Nowhere : goal.returns-in-Nowhere
+returns-in-Nowhere c = absent _ _ _ c.place_of.ensures c.in-Nowhere.is

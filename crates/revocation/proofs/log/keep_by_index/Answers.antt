@@ -1,17 +1,13 @@
--- `revocation::log::keep_by_index` meets its contract: the pairs that the log has not are sifted from the others.
 use mathlib.Core.Path.{◌≡◌, sym, ap, ◌∙◌}
 use mathlib.Core.Bool.{Bool, true, false, not}
 use mathlib.Core.List.{List}
-use Prim.Native.Nat.{ℕ, ◌+◌, ◌-◌, ◌<◌, ◌≤◌}
+use Prim.Native.Nat.{ℕ, ◌+◌, ◌<◌, ◌≤◌}
 use borrow.Author.Rules.{rules}
 use lib.ListN.{length, get_or, set, take}
 use Rattle.base.specs.Sifted.{Sifting, sift_starts, sift_few, sift_ends, sift_room, sift_passes, sift_keeps}
 use Rattle.revocation.specs.Log.{log_has, absent_of}
-use Rattle.revocation.proofs.log.keep_by_index.Statement.{statement}
-use Rattle.revocation.proofs.log.keep_by_index.Tie as tie
-
-abbrev absent : List ℕ → ℕ → Bool
-absent lg pair = not (log_has (length lg) lg pair)
+use Rattle.revocation.proofs.log.keep_by_index.Invariants.{absent}
+use Rattle.revocation.proofs.log.keep_by_index.Goals as goal
 
 module _ (lg pairs₀ : List ℕ) (count : ℕ) (pairs : List ℕ) (kept j : ℕ) (sifting : Sifting (absent lg) pairs₀ count pairs kept j) where
   ends : count ≤ j → take kept pairs ≡ absent_of (length lg) lg (take count pairs₀)
@@ -25,17 +21,13 @@ module _ (lg pairs₀ : List ℕ) (count : ℕ) (pairs : List ℕ) (kept j : ℕ
     keeps : has ≡ false → Sifting (absent lg) pairs₀ count (set pairs kept (get_or pairs j 0)) (kept + 1) (j + 1)
     keeps no' = sift_keeps (absent lg) pairs₀ count pairs kept j sifting l (ap not (sym e ∙ no'))
 
-abbrev invariant-loop : tie.invariant-loop
-invariant-loop lg heads prevs pairs₀ count kept₀ j₀ pairs kept j = Sifting (absent lg) pairs₀ count pairs kept j
-
-abbrev decreases-loop : tie.decreases-loop
-decreases-loop lg heads prevs pairs₀ count kept₀ j₀ pairs kept j = count - j
-
 ruleset laws = (rules, sift_starts, sift_few, ends, sift_room, passes, keeps)
 
-pub keep-by-index-spec : {M : Type 1} → statement M
-keep-by-index-spec =
-    tie.close
-    (tie.spec invariant-loop decreases-loop (λ c. search laws) (λ c. search laws) (λ c. search laws) (λ c κs. search laws) (λ c. search laws)
-    (λ c. search laws) (λ c. search laws) (λ c. search laws) (λ c. search laws) (λ c. search laws) (λ c. search laws) (λ c. search laws)
-    (λ c. search laws) (λ c. search laws) (λ c. search laws))
+pub loop-j-preserved-then-has_indexed : goal.loop-j-preserved-then-has_indexed
+loop-j-preserved-then-has_indexed c = search laws
+
+pub loop-j-preserved : goal.loop-j-preserved
+loop-j-preserved c = search laws
+
+pub returns-clause-pairs_after : goal.returns-clause-pairs_after
+returns-clause-pairs_after c = search laws

@@ -1,0 +1,14 @@
+-- `revocation::log::has_pair` meets its contract: no pair before k is this one, so the first from k on is the first.
+use mathlib.Core.Path.{◌≡◌}
+use Prim.Native.Nat.{◌-◌, ◌≤◌}
+use lib.Dec.{eqb}
+use Rattle.base.specs.Below.{first, first_from}
+use Rattle.revocation.specs.Words.{pair_at}
+use Rattle.revocation.proofs.log.has_pair.Given as goal
+
+abbrev pub invariant-loop-k : goal.invariant-loop-k
+invariant-loop-k l =
+    (l.k ≤ l.n) × (first (λ k. eqb (pair_at l.lg k) l.pair) l.n ≡ first_from (λ k. eqb (pair_at l.lg k) l.pair) (l.n - l.k) l.k)
+
+abbrev pub decreases-loop-k : goal.decreases-loop-k
+decreases-loop-k l = l.n - l.k

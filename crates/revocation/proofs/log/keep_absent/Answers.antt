@@ -1,0 +1,48 @@
+-- `revocation::log::keep_absent` meets its contract: one pair stays where it is; for more, what is lent is the first n pairs of the log,
+-- and fresh arrays index nothing.
+use mathlib.Core.Path.{◌≡◌, sym, ◌∙◌}
+use mathlib.Core.Bool.{Bool, true, false}
+use mathlib.Core.List.{List, [], ◌∷◌}
+use Prim.Native.Nat.{ℕ, ◌<◌, ◌≤◌}
+use native.Mathlib.Omega.{arith}
+use lib.ListN.{length, get_or, take, length-take}
+use lib.Seq.{take-suc}
+use Rattle.base.specs.Chain.{chained_none}
+use Rattle.revocation.specs.Log.{log_has, absent_of}
+use Rattle.revocation.specs.LogLaws.{absent_one, absent_take}
+use Rattle.revocation.proofs.log.keep_absent.Goals as goal
+
+module _ (n : ℕ) (lg pairs : List ℕ) (count : ℕ) (one : count ≡ 1) (some : 0 < length pairs) where
+  single : take 1 pairs ≡ get_or pairs 0 0 ∷ []
+  single = take-suc pairs 0 0 some
+
+  module _ (has : Bool) (e : has ≡ log_has n lg (get_or pairs 0 0)) where
+    had : has ≡ true → [] ≡ absent_of n lg (take count pairs)
+    had yes' = rw (one, single, absent_one, sym e ∙ yes')
+
+    lacked : has ≡ false → take 1 pairs ≡ absent_of n lg (take count pairs)
+    lacked no' = rw (one, single, absent_one, sym e ∙ no')
+
+module _ (n : ℕ) (lg : List ℕ) (fits : n ≤ length lg) where
+  whole : (pairs kept : List ℕ) → kept ≡ absent_of (length (take n lg)) (take n lg) pairs → kept ≡ absent_of n lg pairs
+  whole pairs kept e = e ∙ absent_take n lg fits pairs
+
+pub returns-then-has_pair-clause-pairs_after : goal.returns-then-has_pair-clause-pairs_after
+returns-then-has_pair-clause-pairs_after c = had _ _ _ _ c.if-count-eq1.true (omega arith) _ c.has_pair.ensures c.if-has_pair.true
+
+pub returns-then-count-eq1-clause-pairs_after : goal.returns-then-count-eq1-clause-pairs_after
+returns-then-count-eq1-clause-pairs_after c = lacked _ _ _ _ c.if-count-eq1.true (omega arith) _ c.has_pair.ensures c.if-has_pair.false
+
+pub keep_indexing-requires-clause-chained : goal.keep_indexing-requires-clause-chained
+keep_indexing-requires-clause-chained c = chained_none _ _ 2048 (omega arith) (omega arith) (simp length-take (omega arith))
+
+pub returns-then-n-le512-clause-pairs_after : goal.returns-then-n-le512-clause-pairs_after
+returns-then-n-le512-clause-pairs_after c =
+    let kept = c.keep_indexing.ensures in whole _ _ (omega arith) _ _ kept.pairs_after
+
+pub keep_indexing-requires-2-clause-chained : goal.keep_indexing-requires-2-clause-chained
+keep_indexing-requires-2-clause-chained c = chained_none _ _ 65536 (omega arith) (omega arith) (simp length-take (omega arith))
+
+pub returns-clause-pairs_after : goal.returns-clause-pairs_after
+returns-clause-pairs_after c =
+    let kept = c.keep_indexing-2.ensures in whole _ _ (omega arith) _ _ kept.pairs_after

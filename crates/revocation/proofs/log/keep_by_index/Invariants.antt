@@ -1,0 +1,17 @@
+-- `revocation::log::keep_by_index` meets its contract: the pairs that the log has not are sifted from the others.
+use mathlib.Core.Bool.{Bool, not}
+use mathlib.Core.List.{List}
+use Prim.Native.Nat.{ℕ, ◌-◌}
+use lib.ListN.{length}
+use Rattle.base.specs.Sifted.{Sifting}
+use Rattle.revocation.specs.Log.{log_has}
+use Rattle.revocation.proofs.log.keep_by_index.Given as goal
+
+abbrev pub absent : List ℕ → ℕ → Bool
+absent lg pair = not (log_has (length lg) lg pair)
+
+abbrev pub invariant-loop-j : goal.invariant-loop-j
+invariant-loop-j l = Sifting (absent l.lg) l.initial.pairs l.count l.pairs l.kept l.j
+
+abbrev pub decreases-loop-j : goal.decreases-loop-j
+decreases-loop-j l = l.count - l.j

@@ -1,0 +1,14 @@
+use borrow.Author.Rules.{rules}
+use Rattle.base.specs.AllLaws.{all_tests}
+use Rattle.revocation.proofs.look.pids_differ.Goals as goal
+
+ruleset laws = (rules, all_tests)
+
+pub loop-j-init : goal.loop-j-init
+loop-j-init c = search laws
+
+pub loop-j-preserved : goal.loop-j-preserved
+loop-j-preserved c = search laws
+
+pub returns-else-pid_new : goal.returns-else-pid_new
+returns-else-pid_new c = search laws

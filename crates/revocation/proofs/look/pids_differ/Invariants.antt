@@ -1,0 +1,14 @@
+-- `revocation::look::pids_differ` meets its contract: the queues before j have different pids.
+use mathlib.Core.Path.{◌≡◌}
+use mathlib.Core.Bool.{true}
+use Prim.Native.Nat.{◌-◌, ◌≤◌}
+use Rattle.base.specs.Below.{all}
+use Rattle.revocation.specs.Words.{pid_at, length_at}
+use Rattle.revocation.specs.Sound.{apart_test}
+use Rattle.revocation.proofs.look.pids_differ.Given as goal
+
+abbrev pub invariant-loop-j : goal.invariant-loop-j
+invariant-loop-j l = (l.j ≤ l.p) × (all l.j (λ j. all j (λ i. apart_test (pid_at l.qs) (length_at l.qs) i j)) ≡ true)
+
+abbrev pub decreases-loop-j : goal.decreases-loop-j
+decreases-loop-j l = l.p - l.j

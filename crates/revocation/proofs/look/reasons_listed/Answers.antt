@@ -1,0 +1,14 @@
+use borrow.Author.Rules.{rules}
+use Rattle.base.specs.AllLaws.{all_tests}
+use Rattle.revocation.proofs.look.reasons_listed.Goals as goal
+
+ruleset laws = (rules, all_tests)
+
+pub loop-i-init : goal.loop-i-init
+loop-i-init c = search laws
+
+pub loop-i-preserved : goal.loop-i-preserved
+loop-i-preserved c = search laws
+
+pub returns-else-reason_listed : goal.returns-else-reason_listed
+returns-else-reason_listed c = search laws

@@ -1,0 +1,8 @@
+-- `revocation::queues::free` meets its contract: one word is written.
+use borrow.Author.Rules.{rules}
+use Rattle.revocation.specs.Queue.{freed}
+use Rattle.revocation.proofs.queues.free.Goals as goal
+
+pub returns : goal.returns
+unfolding freed
+returns c = search rules
