@@ -2,15 +2,13 @@
 use mathlib.Core.Path.{◌≡◌}
 use mathlib.Core.List.{List}
 use Prim.Native.Nat.{ℕ, ◌+◌, ◌-◌}
-use borrow.Author.Rules.{rules}
 use Rattle.base.specs.Below.{one}
 use Rattle.table.specs.Slots.{id_of, is_removed, put_entry}
 use Rattle.table.specs.Walk.{free_for}
 use Rattle.table.specs.Insert.{placed}
 use Rattle.table.specs.declared.CapTable.{CapTable}
 use Rattle.table.specs.declared.CapabilityEntry.{CapabilityEntry}
-use Rattle.table.proofs.insert.place.Statement.{statement}
-use Rattle.table.proofs.insert.place.Tie as tie
+use Rattle.table.proofs.insert.place.Goals as goal
 
 at_free : (ws after : List ℕ) (t : CapTable) (e : CapabilityEntry) (id i marks moved : ℕ) → id ≡ id_of e → i ≡ free_for ws t.slots id
     → marks ≡ t.tombstones - one (is_removed ws i) → after ≡ put_entry ws i e
@@ -19,8 +17,5 @@ at_free : (ws after : List ℕ) (t : CapTable) (e : CapabilityEntry) (id i marks
 unfolding placed
 at_free ws after t e id i marks moved h f m p = rw (p, m, f, h)
 
-pub place-spec : {M : Type 1} → statement M
-place-spec =
-    tie.close
-    (tie.spec (λ c κs. search rules) (λ c κs. search rules) (λ c κs. search rules) (λ c κs. search rules) (λ c. search rules)
-    (λ c. search rules) (λ c. search at_free))
+pub returns : goal.returns
+returns c = search at_free

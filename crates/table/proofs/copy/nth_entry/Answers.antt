@@ -1,5 +1,3 @@
--- `table::copy::nth_entry` meets its contract. The invariant: of the live entries from slot i on, the one after `past` others is the
--- answer. The measure is the slots that are left.
 use mathlib.Core.Path.{◌≡◌, sym, ap, ◌∙◌}
 use mathlib.Core.List.{List, ◌∷◌}
 use Prim.Native.Nat.{ℕ, suc, ◌+◌, ◌-◌, ◌<◌, ◌≤◌}
@@ -16,8 +14,7 @@ use Rattle.table.specs.declared.Nth.TheVariants.{Entry, Past}
 use Rattle.table.specs.declared.Slot.{Slot}
 use Rattle.table.specs.declared.Slot.TheVariants.{Full}
 use Rattle.table.proofs.CodeSlots.{Other, full_slot, other_slot}
-use Rattle.table.proofs.copy.nth_entry.Statement.{statement}
-use Rattle.table.proofs.copy.nth_entry.Tie as tie
+use Rattle.table.proofs.copy.nth_entry.Goals as goal
 
 starts : (ws : List ℕ) (slots n : ℕ) → nth_of (live_entries ws 0 (slots - 0)) n ≡ nth_of (live_entries ws 0 slots) n
 starts ws slots n = ap (λ m. nth_of (live_entries ws 0 m) n) (sub-zero slots)
@@ -58,27 +55,14 @@ module _ (ws : List ℕ) (slots i past : ℕ) (answer : Nth) (left : nth_of (liv
 
 ruleset nth_laws = (starts, passes, here, ends, rules)
 
-abbrev invariant-loop : tie.invariant-loop
-invariant-loop words slots n past₀ i₀ past i = (i ≤ slots) × (nth_of (live_entries words i (slots - i)) past ≡ nth_of (live_entries words 0 slots) n)
+pub loop-i-preserved-in_default : goal.loop-i-preserved-in_default
+loop-i-preserved-in_default c = search nth_laws
 
-abbrev decreases-loop : tie.decreases-loop
-decreases-loop words slots n past₀ i₀ past i = slots - i
+pub returns-then-past-eq0 : goal.returns-then-past-eq0
+returns-then-past-eq0 c = search nth_laws
 
-pub nth-entry-spec : {M : Type 1} → statement M
-nth-entry-spec =
-    tie.close
-    (tie.spec
-    invariant-loop
-    decreases-loop
-    (λ c. search nth_laws)
-    (λ c κs. search rules)
-    (λ c. search rules)
-    (λ c. search rules)
-    (λ c. search rules)
-    (λ c. search nth_laws)
-    (λ c. search nth_laws)
-    (λ c. search rules)
-    (λ c. search rules)
-    (λ c. search rules)
-    (λ c. (search rules, search (counts _ _ _ _ _ c.before.before.before.before.before.before.loop.invariant.1)))
-    (λ c. search nth_laws))
+pub loop-i-preserved : goal.loop-i-preserved
+loop-i-preserved c = (search rules, search (counts _ _ _ _ _ c.loop-i.invariant.1))
+
+pub returns : goal.returns
+returns c = search nth_laws

@@ -8,8 +8,7 @@ use borrow.Author.Rules.{rules}
 use lib.ListN.{length}
 use Rattle.table.specs.Insert.{live_entries, scratch_entries, gathered, emptied, place_all, rebuilt}
 use Rattle.table.proofs.laws.Scratch.{gathered_live, gathered_count}
-use Rattle.table.proofs.insert.rebuild.Statement.{statement}
-use Rattle.table.proofs.insert.rebuild.Tie as tie
+use Rattle.table.proofs.insert.rebuild.Goals as goal
 
 placed : (ws kept zeros bare after : List ℕ) (slots n count : ℕ)
     → record { kept = kept; count = count } ≡ gathered ws 0 slots (record { kept = zeros; count = 0 }) → 4 * slots ≤ length zeros
@@ -25,16 +24,16 @@ nothing : (ws : List ℕ) (slots : ℕ) → slots ≡ 0 → 0 ≡ length (live_e
 unfolding live_entries
 nothing ws slots none = rw none
 
-refilled : tie.Need-returns-2
-refilled c =
-    let emptying = c.before.before.before.before.before.before.before in
-    let gathering = emptying.before.before.gather.ensures in (
-      placed _ _ _ _ _ _ _ _ gathering.0 (omega arith) emptying.empty-slots2.ensures c.before.before.place-all.ensures,
-      (gathered_count _ _ _ _ _ (omega arith) gathering.0, gathering.1),
-    )
+pub returns-then-slots-eq0-clause-value : goal.returns-then-slots-eq0-clause-value
+returns-then-slots-eq0-clause-value c = search (bare, nothing, rules)
 
-pub rebuild-spec : {M : Type 1} → statement M
-rebuild-spec =
-    tie.close
-    (tie.spec (λ c κs. search rules) (λ c. search rules) (λ c. search (bare, nothing, rules)) (λ c κs. search rules) (λ c κs. search rules)
-    (λ c κs. search rules) (λ c. search rules) refilled)
+pub returns-then-slots-eq0-clause-words_after : goal.returns-then-slots-eq0-clause-words_after
+returns-then-slots-eq0-clause-words_after c = search (bare, nothing, rules)
+
+pub returns-clause-value : goal.returns-clause-value
+returns-clause-value c =
+    let gathering = c.gather-count.ensures in (gathered_count _ _ _ _ _ (omega arith) gathering.result_after, gathering.upper_bound)
+
+pub returns-clause-words_after : goal.returns-clause-words_after
+returns-clause-words_after c =
+    let gathering = c.gather-count.ensures in placed _ _ _ _ _ _ _ _ gathering.result_after (omega arith) c.empty_slots-2.ensures c.place_all.ensures

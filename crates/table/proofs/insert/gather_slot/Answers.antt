@@ -10,8 +10,7 @@ use Rattle.table.specs.declared.CapabilityEntry.{CapabilityEntry}
 use Rattle.table.specs.declared.Slot.{Slot}
 use Rattle.table.specs.declared.Slot.TheVariants.{Full}
 use Rattle.table.proofs.CodeSlots.{Other, full_slot, other_slot}
-use Rattle.table.proofs.insert.gather_slot.Statement.{statement}
-use Rattle.table.proofs.insert.gather_slot.Tie as tie
+use Rattle.table.proofs.insert.gather_slot.Goals as goal
 
 module _ (ws : List ℕ) (i : ℕ) (s : Slot) (is : s ≡ slot_at ws i) (kept : List ℕ) (count : ℕ) where
   live : (after : List ℕ) (e : CapabilityEntry) → s ≡ Full e → after ≡ put_entry kept count e
@@ -23,13 +22,8 @@ module _ (ws : List ℕ) (i : ℕ) (s : Slot) (is : s ≡ slot_at ws i) (kept : 
   unfolding gathered
   other tag = rw (other_slot ws i s is tag, add-zero)
 
-pub gather-slot-spec : {M : Type 1} → statement M
-gather-slot-spec =
-    tie.close
-    (tie.spec
-    (λ c κs. search rules)
-    (λ c. search rules)
-    (λ c κs. search rules)
-    (λ c. search rules)
-    (λ c. search (live, rules))
-    (λ c. search (other, rules)))
+pub returns-in-Full-clause-result_after : goal.returns-in-Full-clause-result_after
+returns-in-Full-clause-result_after c = search (live, rules)
+
+pub returns : goal.returns
+returns c = search (other, rules)

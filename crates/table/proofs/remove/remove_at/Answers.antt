@@ -12,8 +12,7 @@ use Rattle.table.specs.declared.Got.TheVariants.{Entry, Nothing}
 use Rattle.table.specs.declared.Slot.{Slot}
 use Rattle.table.specs.declared.Slot.TheVariants.{Full}
 use Rattle.table.proofs.CodeSlots.{Other, full_slot, other_slot}
-use Rattle.table.proofs.remove.remove_at.Statement.{statement}
-use Rattle.table.proofs.remove.remove_at.Tie as tie
+use Rattle.table.proofs.remove.remove_at.Goals as goal
 
 module _ (ws : List ℕ) (i : ℕ) (s : Slot) (is : s ≡ slot_at ws i) where
   module _ (tag : Other s) where
@@ -40,9 +39,17 @@ module _ (ws : List ℕ) (i : ℕ) (s : Slot) (is : s ≡ slot_at ws i) where
       unfolding removed_at
       goes l = rw (mark, (full_slot ws i s is e full).0, le-ltb 1 t.full l)
 
-pub remove-at-spec : {M : Type 1} → statement M
-remove-at-spec =
-    tie.close
-    (tie.spec (λ c κs. search rules) (λ c. search rules) (λ c. search rules) (λ c. search (same, nothing, rules)) (λ c κs. search rules)
-    (λ c. search rules) (λ c. search rules) (λ c. search rules) (λ c. search (stays, entry, rules)) (λ c. search rules)
-    (λ c. search (goes, entry, rules)))
+pub returns-in_default : goal.returns-in_default
+returns-in_default c = search (same, nothing, rules)
+
+pub returns-then-t-gt1-clause-left_value : goal.returns-then-t-gt1-clause-left_value
+returns-then-t-gt1-clause-left_value c = search (stays, entry, rules)
+
+pub returns-then-t-gt1-clause-moved_value : goal.returns-then-t-gt1-clause-moved_value
+returns-then-t-gt1-clause-moved_value c = search (stays, entry, rules)
+
+pub returns-clause-left_value : goal.returns-clause-left_value
+returns-clause-left_value c = search (goes, entry, rules)
+
+pub returns-clause-moved_value : goal.returns-clause-moved_value
+returns-clause-moved_value c = search (goes, entry, rules)

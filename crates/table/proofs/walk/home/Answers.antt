@@ -5,7 +5,6 @@ use mathlib.Core.Bool.{Bool, true}
 use Prim.Native.Nat.{ℕ, ◌+◌, ◌-◌, ◌/◌, ◌%◌, ◌^◌, ◌<◌, ◌≤◌}
 use native.Mathlib.Nat.{mod-lt}
 use native.Mathlib.Omega.{arith}
-use borrow.Author.Rules.{rules}
 use borrow.Author.Tests.{eqb-true}
 use lib.Bits.{bit_and, and_mask}
 use lib.Dec.{eqb}
@@ -14,8 +13,7 @@ use Rattle.base.specs.Below.{all, first}
 use Rattle.base.specs.AllLaws.{all_at}
 use Rattle.base.specs.Arith.{next_power, next_is_power}
 use Rattle.table.specs.Walk.{home_of}
-use Rattle.table.proofs.walk.home.Statement.{statement}
-use Rattle.table.proofs.walk.home.Tie as tie
+use Rattle.table.proofs.walk.home.Goals as goal
 
 -- n and n - 1 have no bit in common only where n is a power of two: computed for each n from 1 to 512.
 apart : ℕ → Bool
@@ -36,16 +34,13 @@ mask n l u e x =
     let is : n ≡ 2 ^ k = sym (power n (rw up at (all_at 512 (λ m. apart (m + 1)) all_apart (n - 1) (omega arith))) e) ∙ f in
     rw is (and_mask x k)
 
-masked : tie.Need-returns
+pub returns-then-slots-mask-eq0 : goal.returns-then-slots-mask-eq0
 unfolding home_of
-masked c =
-    let n = c.before.before.args.slots in
-    let e = mask n (omega arith) (omega arith) c.if1.true (c.before.wrapping-mul.result / 2 ^ 32) in
-    (rw (e, c.before.wrapping-mul.ensures), rw e (mod-lt _ (omega arith)))
+returns-then-slots-mask-eq0 c =
+    let n = c.args.slots in
+    let e = mask n (omega arith) (omega arith) c.if-slots-mask-eq0.true (c.wrapping_mul.result / 2 ^ 32) in
+    (rw (e, c.wrapping_mul.ensures), rw e (mod-lt _ (omega arith)))
 
-divided : tie.Need-returns-2
+pub returns : goal.returns
 unfolding home_of
-divided c = (rw c.before.wrapping-mul.ensures, mod-lt _ (omega arith))
-
-pub home-spec : {M : Type 1} → statement M
-home-spec = tie.close (tie.spec (λ c κs. search rules) (λ c. search rules) masked (λ c. search rules) divided)
+returns c = (rw c.wrapping_mul.ensures, mod-lt _ (omega arith))

@@ -1,0 +1,15 @@
+-- `table::walk::find` meets its contract: no slots, the two ways to end at home, and the search from the next slot on.
+use Rattle.table.proofs.CodeWalk.{home_laws}
+use Rattle.table.proofs.walk.find.Goals as goal
+
+pub returns-then-slots-eq0 : goal.returns-then-slots-eq0
+returns-then-slots-eq0 c = search home_laws
+
+pub returns-then-has_id : goal.returns-then-has_id
+returns-then-has_id c = search home_laws
+
+pub returns-then-kind-eq-EMPTY : goal.returns-then-kind-eq-EMPTY
+returns-then-kind-eq-EMPTY c = search home_laws
+
+pub returns : goal.returns
+returns c = search home_laws

@@ -1,0 +1,14 @@
+-- `table::walk::find_from` meets its contract. The invariant: after `passed` visits the search goes on at slot i, and answers that many
+-- visits more than the search from there on. The measure is the slots that are left.
+use mathlib.Core.Path.{◌≡◌}
+use Prim.Native.Nat.{◌-◌, ◌<◌, ◌≤◌}
+use Rattle.table.specs.Walk.{search_from}
+use Rattle.table.proofs.CodeWalk.{later}
+use Rattle.table.proofs.walk.find_from.Given as goal
+
+abbrev pub invariant-loop-passed : goal.invariant-loop-passed
+invariant-loop-passed l =
+    (l.passed ≤ l.n) × (l.i < l.slots) × (search_from l.words l.slots l.id l.from l.n ≡ later l.passed (search_from l.words l.slots l.id l.i (l.n - l.passed)))
+
+abbrev pub decreases-loop-passed : goal.decreases-loop-passed
+decreases-loop-passed l = l.n - l.passed
