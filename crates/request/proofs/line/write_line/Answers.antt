@@ -8,8 +8,7 @@ use lib.ListN.{length, length-append}
 use Rattle.request.specs.Laid.{Laid, laid_laid}
 use Rattle.request.specs.Lines.{width, decimal, hex, line_of}
 use Rattle.request.specs.LinesLaws.{length_decimal, width_4, width_2, length_line}
-use Rattle.request.proofs.line.write_line.Statement.{statement}
-use Rattle.request.proofs.line.write_line.Tie as tie
+use Rattle.request.proofs.line.write_line.Goals as goal
 
 -- A number and a blank.
 abbrev field : ℕ → List ℕ
@@ -42,39 +41,32 @@ written number op answer value at l₀ l₁ l₂ l₃ l₄ e₁ e₂ e₃ e₄ f
     let line : Laid at (line_of number op answer value) l₀ l₄ e₄ = simp append_assoc at (laid_laid _ _ _ _ _ three _ _ _ fourth fits) in
     (line, omega (arith, line.place, length_line number op answer value a b))
 
-put_decimal_requires_2 : tie.Need-put-decimal-requires-2
-put_decimal_requires_2 c κs = (search rules, omega (arith, behind_4 _ _ _ _ _ c.before.before.before.put-decimal.ensures))
+pub put_decimal-third-requires : goal.put_decimal-third-requires
+put_decimal-third-requires c = (search rules, omega (arith, behind_4 _ _ _ _ _ c.put_decimal-second.ensures))
 
-put_decimal_requires_3 : tie.Need-put-decimal-requires-3
-put_decimal_requires_3 c κs = (
+pub put_decimal-fourth-requires : goal.put_decimal-fourth-requires
+put_decimal-fourth-requires c = (
   search rules,
   omega (
     arith,
-    behind_4 _ _ _ _ _ c.before.before.before.before.before.before.before.put-decimal.ensures,
-    behind_2 _ _ _ _ _ c.before.before.before.put-decimal2.ensures (omega arith),
+    behind_4 _ _ _ _ _ c.put_decimal-second.ensures,
+    behind_2 _ _ _ _ _ c.put_decimal-third.ensures (omega arith),
   ),
 )
 
-put_hex_requires : tie.Need-put-hex-requires
-put_hex_requires c κs =
+pub put_hex-requires : goal.put_hex-requires
+put_hex-requires c =
     omega (
       arith,
-      behind_4 _ _ _ _ _ c.before.before.before.before.before.before.before.before.before.before.before.put-decimal.ensures,
-      behind_2 _ _ _ _ _ c.before.before.before.before.before.before.before.put-decimal2.ensures (omega arith),
-      behind_2 _ _ _ _ _ c.before.before.before.put-decimal3.ensures (omega arith),
+      behind_4 _ _ _ _ _ c.put_decimal-second.ensures,
+      behind_2 _ _ _ _ _ c.put_decimal-third.ensures (omega arith),
+      behind_2 _ _ _ _ _ c.put_decimal-fourth.ensures (omega arith),
     )
 
-returns : tie.Need-returns
+pub returns : goal.returns
 returns c =
-    let third : tie.After-put-decimal3 = c.before.before.before.before.before.before in
-    let first : tie.After-put-decimal = third.before.before.before.before.before.before.before.before in
     written _ _ _ _ _ _ _ _ _ _ _ _ _ _ (omega arith) (omega arith) (omega arith)
-    first.put-decimal.ensures
-    third.before.before.before.before.put-decimal2.ensures
-    third.put-decimal3.ensures
-    c.before.before.put-hex.ensures
-
-pub write-line-spec : {M : Type 1} → statement M
-write-line-spec =
-    tie.close
-    (tie.spec (λ c κs. search rules) put_decimal_requires_2 put_decimal_requires_3 put_hex_requires (λ c. search rules) returns)
+    c.put_decimal-second.ensures
+    c.put_decimal-third.ensures
+    c.put_decimal-fourth.ensures
+    c.put_hex.ensures

@@ -1,15 +1,13 @@
--- `request::line::put` meets its contract: with the bytes from j on written behind those before, the lines become the answer.
 use mathlib.Core.Path.{◌≡◌, refl, ◌∙◌}
 use mathlib.Core.List.{List, append_assoc}
-use Prim.Native.Nat.{ℕ, ◌+◌, ◌-◌, ◌≤◌}
+use Prim.Native.Nat.{ℕ, ◌+◌, ◌≤◌}
 use native.Mathlib.Omega.{arith}
 use borrow.Author.Rules.{rules}
 use lib.ListN.{length, take}
 use lib.Seq.{sets, sets-eq}
 use Rattle.base.specs.Written.{Writing, write_goes, write_ends}
 use Rattle.request.specs.Laid.{Laid}
-use Rattle.request.proofs.line.put.Statement.{statement}
-use Rattle.request.proofs.line.put.Tie as tie
+use Rattle.request.proofs.line.put.Goals as goal
 
 starts : (bytes lines : List ℕ) (at : ℕ) → Writing bytes lines (sets lines at bytes) lines at 0
 starts bytes lines at = record { inside = omega arith; same = refl; left = refl }
@@ -29,16 +27,7 @@ ends bytes lines₀ lines at i j fits writing behind u = record {
   place = omega (arith, writing.inside);
 }
 
-abbrev invariant-loop : tie.invariant-loop
-invariant-loop lines₀ at bytes i₀ j₀ lines i j = Writing bytes lines₀ (sets lines₀ at bytes) lines i j × (i ≡ at + j)
-
-abbrev decreases-loop : tie.decreases-loop
-decreases-loop lines₀ at bytes i₀ j₀ lines i j = length bytes - j
-
 ruleset laws = (rules, starts, write_goes, ends)
 
-pub put_spec : {M : Type 1} → statement M
-put_spec =
-    tie.close
-    (tie.spec invariant-loop decreases-loop (λ c. search laws) (λ c. search laws) (λ c. search laws) (λ c. search laws) (λ c. search laws)
-    (λ c. search laws) (λ c. search laws) (λ c. search laws) (λ c. search laws))
+pub returns : goal.returns
+returns c = search laws

@@ -11,8 +11,7 @@ use Rattle.base.specs.Below.{all}
 use Rattle.base.specs.Choose.{pick}
 use Rattle.request.specs.declared.Request.{Request}
 use Rattle.request.specs.Reading.{masks, too_far}
-use Rattle.request.proofs.masks.too_far.Statement.{statement}
-use Rattle.request.proofs.masks.too_far.Tie as tie
+use Rattle.request.proofs.masks.too_far.Goals as goal
 
 module _ (r : Request) (spaces : ℕ) where
   -- A number is read and below S, or not read, by the low bit of a mask.
@@ -30,7 +29,8 @@ module _ (r : Request) (spaces : ℕ) where
 
 ruleset laws = (rules, at_first, at_second)
 
-pub too-far-spec : {M : Type 1} → statement M
-too-far-spec =
-    tie.close
-    (tie.spec (λ c κs. search laws) (λ c κs. search laws) (λ c. search laws) (λ c κs. search laws) (λ c. search laws))
+pub returns-then-is_far : goal.returns-then-is_far
+returns-then-is_far c = search laws
+
+pub returns : goal.returns
+returns c = search laws

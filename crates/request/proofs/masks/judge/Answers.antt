@@ -3,8 +3,7 @@ use mathlib.Core.Path.{◌≡◌, sym, ap, ◌∙◌}
 use mathlib.Core.Bool.{Bool, not}
 use Rattle.request.specs.Reading.{verdict_of}
 use Rattle.request.proofs.Chosen.{chosen}
-use Rattle.request.proofs.masks.judge.Statement.{statement}
-use Rattle.request.proofs.masks.judge.Tie as tie
+use Rattle.request.proofs.masks.judge.Goals as goal
 
 -- A test by what the function that makes it answered.
 module _ (r test b : Bool) (is : r ≡ test) where
@@ -16,9 +15,22 @@ module _ (r test b : Bool) (is : r ≡ test) where
 
 ruleset laws = (chosen, answered, answered_not)
 
-pub judge-spec : {M : Type 1} → statement M
+pub returns-then-r-eq0 : goal.returns-then-r-eq0
 unfolding verdict_of
-judge-spec =
-    tie.close
-    (tie.spec (λ c. search laws depth 12) (λ c. search laws depth 12) (λ c κs. search laws) (λ c. search laws depth 12)
-    (λ c κs. search laws) (λ c. search laws depth 12) (λ c. search laws depth 12))
+returns-then-r-eq0 c = search laws depth 12
+
+pub returns-then-r-gt15 : goal.returns-then-r-gt15
+unfolding verdict_of
+returns-then-r-gt15 c = search laws depth 12
+
+pub returns-then-too_far : goal.returns-then-too_far
+unfolding verdict_of
+returns-then-too_far c = search laws depth 12
+
+pub returns-then-not-zero_unread : goal.returns-then-not-zero_unread
+unfolding verdict_of
+returns-then-not-zero_unread c = search laws depth 12
+
+pub returns : goal.returns
+unfolding verdict_of
+returns c = search laws depth 12

@@ -1,7 +1,6 @@
--- `request::masks::zero_unread` meets its contract: the fields before the i-th are read or zero, and the mask's low bit is of the i-th.
 use mathlib.Core.Bool.{Bool, true, false, not}
 use mathlib.Core.Path.{◌≡◌, sym, ap, ◌∙◌}
-use Prim.Native.Nat.{ℕ, ◌+◌, ◌-◌, ◌/◌, ◌%◌, ◌^◌, ◌<◌, ◌≤◌}
+use Prim.Native.Nat.{ℕ, ◌+◌, ◌/◌, ◌%◌, ◌<◌, ◌≤◌}
 use native.Mathlib.Nat.{pow-suc, div-div-eq-div-mul, div-one}
 use native.Mathlib.Numerals.{add-one}
 use native.Mathlib.Omega.{arith}
@@ -9,21 +8,12 @@ use borrow.Author.Rules.{rules}
 use borrow.Author.Tests.{not-true, not-false}
 use lib.Dec.{eqb}
 use lib.ListN.{get_or}
-use Rattle.base.specs.Below.{all}
 use Rattle.base.specs.AllLaws.{all_none, all_more, all_done, all_fails}
 use Rattle.base.specs.Choose.{pick}
 use Rattle.request.specs.declared.Request.{Request}
-use Rattle.request.specs.Reading.{masks, field_at, reads, zero_unread}
-use Rattle.request.proofs.masks.zero_unread.Statement.{statement}
-use Rattle.request.proofs.masks.zero_unread.Tie as tie
-
-abbrev kept : Request → ℕ → Bool
-kept r i = pick (reads r.op i) true (eqb (field_at r i) 0)
-
-record Looking (r : Request) (mask i : ℕ) : Type 0 where
-  inside : i ≤ 7
-  here : mask ≡ get_or masks r.op 0 / 2 ^ i
-  before : all i (kept r) ≡ true
+use Rattle.request.specs.Reading.{masks, field_at, zero_unread}
+use Rattle.request.proofs.masks.zero_unread.Invariants.{kept, Looking}
+use Rattle.request.proofs.masks.zero_unread.Goals as goal
 
 starts : (r : Request) (mask : ℕ) → mask ≡ get_or masks r.op 0 → Looking r mask 0
 starts r mask e = record { inside = omega arith; here = e ∙ sym (div-one _); before = all_none (kept r) }
@@ -48,16 +38,16 @@ module _ (r : Request) (mask i : ℕ) (looking : Looking r mask i) where
   unfolding zero_unread
   ends u = rw (← all_done i 7 (kept r) looking.before looking.inside u)
 
-abbrev invariant-loop : tie.invariant-loop
-invariant-loop r fields mask₀ i₀ mask i = Looking r mask i
-
-abbrev decreases-loop : tie.decreases-loop
-decreases-loop r fields mask₀ i₀ mask i = 7 - i
-
 ruleset laws = (rules, starts, goes, stops, ends)
 
-pub zero-unread-spec : {M : Type 1} → statement M
-zero-unread-spec =
-    tie.close
-    (tie.spec invariant-loop decreases-loop (λ c κs. search laws) (λ c. search laws) (λ c. search laws) (λ c. search laws) (λ c κs. search laws)
-    (λ c. search laws) (λ c. search laws) (λ c. search laws) (λ c. search laws) (λ c. search laws))
+pub loop-i-init : goal.loop-i-init
+loop-i-init c = search laws
+
+pub returns-then-is_stray : goal.returns-then-is_stray
+returns-then-is_stray c = search laws
+
+pub loop-i-preserved : goal.loop-i-preserved
+loop-i-preserved c = search laws
+
+pub returns : goal.returns
+returns c = search laws
