@@ -1,5 +1,4 @@
--- `registry_look::each_place_sound` meets its contract: the places before k keep their rules, their children are counted, and no list
--- is long yet.
+use Rattle.std.proofs.Common.{ap}
 use mathlib.Core.Path.{◌≡◌, refl, sym, ◌∙◌}
 use mathlib.Core.Logic.{◌≢◌}
 use mathlib.Core.Bool.{Bool, true, false, not}
@@ -17,16 +16,8 @@ use Rattle.registry.specs.Words.{link_at}
 use Rattle.registry.specs.Sound.{short_test}
 use Rattle.registry.specs.Counts.{add_one, Counted, counted_root, counted_child, counted_full, counted_done}
 use Rattle.registry_look.specs.Look.{place_test, places_test}
-use Rattle.registry_look.proofs.each_place_sound.Statement.{statement}
-use Rattle.registry_look.proofs.each_place_sound.Tie as tie
-
--- The places below k are done; counts₀ are the counters as they were lent.
-record Done (places n next : ℕ) (rg counts₀ counts : List ℕ) (k : ℕ) : Type 0 where
-  inside : k ≤ n
-  room : n ≤ length counts
-  same : length counts ≡ length counts₀
-  passed : all k (place_test places next rg) ≡ true
-  counted : Counted (link_at places rg) k counts
+use Rattle.registry_look.proofs.each_place_sound.Invariants.{Done}
+use Rattle.registry_look.proofs.each_place_sound.Goals as goal
 
 starts :
     (places n next : ℕ) (rg counts : List ℕ) → n ≤ length counts → Counted (link_at places rg) 0 counts
@@ -92,30 +83,39 @@ module _ (places n next : ℕ) (rg counts₀ counts : List ℕ) (k : ℕ) (done 
             (earlier places next rg k r e t) l long))
             (sym (both_false (all n (place_test places next rg))))
 
-abbrev invariant-loop : tie.invariant-loop
-invariant-loop rg places n next counts₀ k₀ counts k = Done places n next rg counts₀ counts k
-
-abbrev decreases-loop : tie.decreases-loop
-decreases-loop rg places n next counts₀ k₀ counts k = n - k
-
 ruleset laws = (rules, starts, ends, broken, root, within, child, full)
 
--- The place of the parent is small, so that the bytes before its counter are a word's number.
-mul_count : tie.Need-overflow-mul-count invariant-loop decreases-loop
-mul_count c = omega (arith, earlier _ _ _ _ _ c.before.before.before.place-sound.ensures c.before.before.if1.false)
+pub loop-k-init : goal.loop-k-init
+loop-k-init c = search laws
 
-mul_counts : tie.Need-overflow-mul-counts invariant-loop decreases-loop
-mul_counts c =
+pub returns-then-not-place_sound : goal.returns-then-not-place_sound
+returns-then-not-place_sound c = search laws
+
+pub loop-k-preserved-then-link-eq0 : goal.loop-k-preserved-then-link-eq0
+loop-k-preserved-then-link-eq0 c = search laws
+
+pub offset_bounds-counts-p : goal.offset_bounds-counts-p
+offset_bounds-counts-p c = omega (arith, earlier _ _ _ _ _ c.place_sound.ensures (ap not c.if-not-place_sound.false))
+
+pub bounds-counts-p : goal.bounds-counts-p
+bounds-counts-p c = search laws
+
+pub returns-then-count-ge1024 : goal.returns-then-count-ge1024
+returns-then-count-ge1024 c = search laws
+
+pub offset_bounds-counts-p-in-loop-k : goal.offset_bounds-counts-p-in-loop-k
+offset_bounds-counts-p-in-loop-k c =
     omega (
       arith,
-      earlier _ _ _ _ _ c.before.before.before.before.before.place-sound.ensures
-          c.before.before.before.before.if1.false,
+      earlier _ _ _ _ _ c.place_sound.ensures
+          (ap not c.if-not-place_sound.false),
     )
 
-pub each-place-sound-spec : {M : Type 1} → statement M
-each-place-sound-spec =
-    tie.close
-    (tie.spec invariant-loop decreases-loop (λ c. search laws) (λ c κs. search laws) (λ c. search laws) (λ c. search laws) (λ c. search laws)
-    (λ c. search laws) (λ c. search laws) (λ c. search laws) (λ c. search laws) (λ c. search laws) (λ c. search laws) (λ c. search laws)
-    mul_count (λ c. search laws) (λ c. search laws) (λ c. search laws) (λ c. search laws) mul_counts (λ c. search laws) (λ c. search laws)
-    (λ c. search laws) (λ c. search laws) (λ c. search laws) (λ c. search laws))
+pub bounds-counts-p-in-loop-k : goal.bounds-counts-p-in-loop-k
+bounds-counts-p-in-loop-k c = search laws
+
+pub loop-k-preserved : goal.loop-k-preserved
+loop-k-preserved c = search laws
+
+pub returns : goal.returns
+returns c = search laws

@@ -1,7 +1,6 @@
--- `registry_look::count_in_entries` meets its contract: the entries before j are counted.
 use mathlib.Core.Path.{◌≡◌, refl, ap, ◌∙◌}
 use mathlib.Core.List.{List}
-use Prim.Native.Nat.{ℕ, ◌+◌, ◌-◌, ◌<◌, ◌≤◌}
+use Prim.Native.Nat.{ℕ, ◌+◌, ◌<◌, ◌≤◌}
 use native.Mathlib.Nat.{le_antisymm}
 use native.Mathlib.Numerals.{add-one}
 use native.Mathlib.Omega.{arith}
@@ -9,13 +8,8 @@ use borrow.Author.Rules.{rules}
 use lib.ListN.{length, get_or}
 use Rattle.base.specs.Compacted.{fold}
 use Rattle.registry.specs.Counts.{AtMost, count_entry, count_entries, few_entries, length_entries}
-use Rattle.registry_look.proofs.count_entries.Statement.{statement}
-use Rattle.registry_look.proofs.count_entries.Tie as tie
-
--- The first j entries are counted; counts₀ are the counters as they were lent.
-record Done (ids entries counts₀ counts : List ℕ) (j : ℕ) : Type 0 where
-  inside : j ≤ length entries
-  counted : counts ≡ count_entries ids entries j counts₀
+use Rattle.registry_look.proofs.count_entries.Invariants.{Done}
+use Rattle.registry_look.proofs.count_entries.Goals as goal
 
 starts : (ids entries counts : List ℕ) → Done ids entries counts counts 0
 unfolding count_entries fold
@@ -40,16 +34,13 @@ module _ (ids entries counts₀ counts : List ℕ) (j : ℕ) (done : Done ids en
   ends : length entries ≤ j → counts ≡ count_entries ids entries (length entries) counts₀
   ends u = done.counted ∙ ap (λ n. count_entries ids entries n counts₀) (le_antisymm done.inside u)
 
-abbrev invariant-loop : tie.invariant-loop
-invariant-loop ids heads prevs entries counts₀ j₀ counts j = Done ids entries counts₀ counts j
-
-abbrev decreases-loop : tie.decreases-loop
-decreases-loop ids heads prevs entries counts₀ j₀ counts j = length entries - j
-
 ruleset laws = (rules, starts, same, room, few, goes, ends)
 
-pub count-entries-spec : {M : Type 1} → statement M
-count-entries-spec =
-    tie.close
-    (tie.spec invariant-loop decreases-loop (λ c. search laws) (λ c. search laws) (λ c. search laws) (λ c κs. search laws) (λ c. search laws)
-    (λ c. search laws) (λ c. search laws) (λ c. search laws) (λ c. search laws))
+pub loop-j-init : goal.loop-j-init
+loop-j-init c = search laws
+
+pub count_entry-requires-clause-at_most : goal.count_entry-requires-clause-at_most
+count_entry-requires-clause-at_most c = search laws
+
+pub loop-j-preserved : goal.loop-j-preserved
+loop-j-preserved c = search laws

@@ -11,8 +11,7 @@ use lib.Dec.{leb, eqb}
 use Rattle.base.specs.Choose.{both}
 use Rattle.registry.specs.Words.{id_at, state_at, link_at, revoked, has_list}
 use Rattle.registry_look.specs.Look.{place_test}
-use Rattle.registry_look.proofs.place_sound.Statement.{statement}
-use Rattle.registry_look.proofs.place_sound.Tie as tie
+use Rattle.registry_look.proofs.place_sound.Goals as goal
 
 module _ (places next : ℕ) (rg : List ℕ) (k : ℕ) where
   zero_id : id_at rg k < 1 → false ≡ place_test places next rg k
@@ -56,10 +55,17 @@ module _ (places next : ℕ) (rg : List ℕ) (k : ℕ) where
 
 ruleset laws = (rules, zero_id, not_issued, later_parent, no_parent, parent)
 
-pub place-sound-spec : {M : Type 1} → statement M
-place-sound-spec =
-    tie.close
-    (tie.spec (λ c. search rules) (λ c. search rules) (λ c. search laws) (λ c. search laws) (λ c. search rules) (λ c. search rules)
-    (λ c. search rules) (λ c. search rules) (λ c. search laws) (λ c. search laws) (λ c. search rules) (λ c. search rules)
-    (λ c. search rules) (λ c. search rules) (λ c. search rules) (λ c. search rules) (λ c. search rules) (λ c. search rules)
-    (λ c. search rules) (λ c κs. search rules) (λ c. search laws))
+pub returns-then-id-lt1 : goal.returns-then-id-lt1
+returns-then-id-lt1 c = search laws
+
+pub returns-then-next-id : goal.returns-then-next-id
+returns-then-next-id c = search laws
+
+pub returns-then-k-link : goal.returns-then-k-link
+returns-then-k-link c = search laws
+
+pub returns-then-link-eq0 : goal.returns-then-link-eq0
+returns-then-link-eq0 c = search laws
+
+pub returns : goal.returns
+returns c = search laws

@@ -1,8 +1,7 @@
--- `registry_look::recycled_sound` meets its contract: the recycled ids before j keep their rules, and `last` is the one before j.
 use mathlib.Core.Path.{◌≡◌, refl, sym, ◌∙◌}
 use mathlib.Core.Bool.{Bool, true, false}
 use mathlib.Core.List.{List}
-use Prim.Native.Nat.{ℕ, ◌+◌, ◌-◌, ◌<◌, ◌≤◌}
+use Prim.Native.Nat.{ℕ, ◌+◌, ◌<◌, ◌≤◌}
 use native.Mathlib.Numerals.{add-one}
 use native.Mathlib.Omega.{arith}
 use borrow.Author.Rules.{rules}
@@ -11,14 +10,9 @@ use Rattle.base.specs.Below.{all}
 use Rattle.base.specs.AllLaws.{all_none, all_more, all_done, all_broken}
 use Rattle.registry.specs.Words.{id_at, recycled_at}
 use Rattle.registry.specs.Sound.{unregistered_id}
-use Rattle.registry_look.specs.Look.{before, recycled_id_test}
-use Rattle.registry_look.proofs.recycled_sound.Statement.{statement}
-use Rattle.registry_look.proofs.recycled_sound.Tie as tie
-
-record Done (places n m next : ℕ) (rg : List ℕ) (last j : ℕ) : Type 0 where
-  inside : j ≤ m
-  last_is : last ≡ before (recycled_at places rg) j
-  passed : all j (recycled_id_test places n next rg) ≡ true
+use Rattle.registry_look.specs.Look.{recycled_id_test}
+use Rattle.registry_look.proofs.recycled_sound.Invariants.{Done}
+use Rattle.registry_look.proofs.recycled_sound.Goals as goal
 
 starts : (places n m next : ℕ) (rg : List ℕ) → Done places n m next rg 0 0
 starts places n m next rg = record { inside = omega arith; last_is = refl; passed = all_none (recycled_id_test places n next rg) }
@@ -55,17 +49,19 @@ module _ (places n m next : ℕ) (rg : List ℕ) (last j : ℕ) (done : Done pla
           passed = all_more j (recycled_id_test places n next rg) done.passed (tested ∙ yes');
         }
 
-abbrev invariant-loop : tie.invariant-loop
-invariant-loop rg places n m next heads prevs last₀ j₀ last j = Done places n m next rg last j
-
-abbrev decreases-loop : tie.decreases-loop
-decreases-loop rg places n m next heads prevs last₀ j₀ last j = m - j
-
 ruleset laws = (rules, starts, ends, not_above, not_issued, registered, goes)
 
-pub recycled-sound-spec : {M : Type 1} → statement M
-recycled-sound-spec =
-    tie.close
-    (tie.spec invariant-loop decreases-loop (λ c. search laws) (λ c. search laws) (λ c. search laws) (λ c. search laws) (λ c. search laws)
-    (λ c. search laws) (λ c. search laws) (λ c κs. search laws) (λ c. search laws) (λ c. search laws) (λ c. search laws) (λ c. search laws)
-    (λ c. search laws))
+pub loop-j-init : goal.loop-j-init
+loop-j-init c = search laws
+
+pub returns-then-id-last : goal.returns-then-id-last
+returns-then-id-last c = search laws
+
+pub returns-then-next-id : goal.returns-then-next-id
+returns-then-next-id c = search laws
+
+pub loop-j-preserved : goal.loop-j-preserved
+loop-j-preserved c = search laws
+
+pub returns-else-unregistered : goal.returns-else-unregistered
+returns-else-unregistered c = search laws

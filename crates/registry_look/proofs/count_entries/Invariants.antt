@@ -1,0 +1,18 @@
+-- `registry_look::count_in_entries` meets its contract: the entries before j are counted.
+use mathlib.Core.Path.{◌≡◌}
+use mathlib.Core.List.{List}
+use Prim.Native.Nat.{ℕ, ◌-◌, ◌≤◌}
+use lib.ListN.{length}
+use Rattle.registry.specs.Counts.{count_entries}
+use Rattle.registry_look.proofs.count_entries.Given as goal
+
+-- The first j entries are counted; counts₀ are the counters as they were lent.
+pub record Done (ids entries counts₀ counts : List ℕ) (j : ℕ) : Type 0 where
+  pub inside : j ≤ length entries
+  pub counted : counts ≡ count_entries ids entries j counts₀
+
+abbrev pub invariant-loop-j : goal.invariant-loop-j
+invariant-loop-j l = Done l.ids l.entries l.initial.counts l.counts l.j
+
+abbrev pub decreases-loop-j : goal.decreases-loop-j
+decreases-loop-j l = length l.entries - l.j

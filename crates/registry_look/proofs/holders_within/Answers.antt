@@ -1,0 +1,14 @@
+use borrow.Author.Rules.{rules}
+use Rattle.base.specs.AllLaws.{all_tests}
+use Rattle.registry_look.proofs.holders_within.Goals as goal
+
+ruleset laws = (rules, all_tests)
+
+pub loop-k-init : goal.loop-k-init
+loop-k-init c = search laws
+
+pub loop-k-preserved : goal.loop-k-preserved
+loop-k-preserved c = search laws
+
+pub returns-else-within : goal.returns-else-within
+returns-else-within c = search laws

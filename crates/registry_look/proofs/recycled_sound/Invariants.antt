@@ -1,0 +1,20 @@
+-- `registry_look::recycled_sound` meets its contract: the recycled ids before j keep their rules, and `last` is the one before j.
+use mathlib.Core.Path.{◌≡◌}
+use mathlib.Core.Bool.{true}
+use mathlib.Core.List.{List}
+use Prim.Native.Nat.{ℕ, ◌-◌, ◌≤◌}
+use Rattle.base.specs.Below.{all}
+use Rattle.registry.specs.Words.{recycled_at}
+use Rattle.registry_look.specs.Look.{before, recycled_id_test}
+use Rattle.registry_look.proofs.recycled_sound.Given as goal
+
+pub record Done (places n m next : ℕ) (rg : List ℕ) (last j : ℕ) : Type 0 where
+  pub inside : j ≤ m
+  pub last_is : last ≡ before (recycled_at places rg) j
+  pub passed : all j (recycled_id_test places n next rg) ≡ true
+
+abbrev pub invariant-loop-j : goal.invariant-loop-j
+invariant-loop-j l = Done l.places l.n l.m l.next l.rg l.last l.j
+
+abbrev pub decreases-loop-j : goal.decreases-loop-j
+decreases-loop-j l = l.m - l.j
