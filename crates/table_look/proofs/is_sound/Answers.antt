@@ -1,11 +1,11 @@
 -- `table_look::is_sound` meets its contract: it makes the tests of `sound_test` in another order, the capacity first, which keeps the
 -- rest in range.
+use Rattle.std.proofs.Common.{ap}
 use mathlib.Core.Path.{◌≡◌, sym, ◌∙◌}
 use mathlib.Core.Bool.{Bool, true, false, not, true≢false}
 use mathlib.Core.List.{List}
 use Prim.Native.Nat.{ℕ, ◌≤◌}
 use native.Mathlib.Omega.{arith}
-use borrow.Author.Rules.{rules}
 use borrow.Author.Tests.{not-true, not-false}
 use Rattle.base.specs.Choose.{both, both_left, both_right, both_make, refuted}
 use Rattle.table.specs.Insert.{slots_for}
@@ -13,8 +13,7 @@ use Rattle.table.specs.Sound.{coded_test, capacity_test, agree_test, room_test, 
 use Rattle.table.specs.declared.CapTable.{CapTable}
 use Rattle.table.proofs.laws.Room.{capacity_le, slots_few}
 use Rattle.table.proofs.laws.Tests.{capacity_exactly, room_exactly, unused_exactly, within_exactly, sound_exactly}
-use Rattle.table_look.proofs.is_sound.Statement.{statement}
-use Rattle.table_look.proofs.is_sound.Tie as tie
+use Rattle.table_look.proofs.is_sound.Goals as goal
 
 abbrev fit : ℕ → CapTable → Bool
 fit most t = both (room_test t) (both (unused_test t) (most_test most t))
@@ -57,27 +56,29 @@ rest most ws t b f r e good g fits last =
       both_right (unused_test t) (most_test most t) used,
     )
 
-counts_fit_requires : tie.Need-counts-fit-requires
-counts_fit_requires c κs =
-    let args = c.before.before.before.args in
+pub returns-then-not-is_capacity : goal.returns-then-not-is_capacity
+returns-then-not-is_capacity c = search no_capacity
+
+pub counts_fit-requires : goal.counts_fit-requires
+counts_fit-requires c =
+    let args = c.args in
     omega (
       arith,
-      few args.most args.t.slots _ c.before.is-capacity.ensures c.if1.false,
+      few args.most args.t.slots _ c.is_capacity.ensures (ap not c.if-not-is_capacity.false),
       slots_few args.most (omega arith),
     )
 
-slots_sound_requires : tie.Need-slots-sound-requires
-slots_sound_requires c κs =
-    let args = c.before.before.before.before.before.args in
-    let capacity = c.before.before in
+pub returns-then-not-counts_fit : goal.returns-then-not-counts_fit
+returns-then-not-counts_fit c = search unfit
+
+pub slots_sound-requires : goal.slots_sound-requires
+slots_sound-requires c =
+    let args = c.args in
     omega (
       arith,
-      few args.most args.t.slots _ capacity.before.is-capacity.ensures capacity.if1.false,
+      few args.most args.t.slots _ c.is_capacity.ensures (ap not c.if-not-is_capacity.false),
       slots_few args.most (omega arith),
     )
 
-pub is-sound-spec : {M : Type 1} → statement M
-is-sound-spec =
-    tie.close
-    (tie.spec (λ c κs. search rules) (λ c. search no_capacity) counts_fit_requires (λ c. search unfit) slots_sound_requires
-    (λ c. search rest))
+pub returns : goal.returns
+returns c = search rest

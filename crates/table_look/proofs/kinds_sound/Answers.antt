@@ -1,10 +1,8 @@
--- `table_look::kinds_sound` meets its contract. The invariant: the first i slots are counted by kind, and the numbers of the live ones
--- are written. The measure is the slots that are left.
 use mathlib.Core.Path.{◌≡◌, refl, ◌∙◌}
 use mathlib.Core.Bool.{Bool, false}
 use mathlib.Core.List.{List}
 use mathlib.Core.Logic.{◌≢◌}
-use Prim.Native.Nat.{ℕ, ◌+◌, ◌-◌, ◌≤◌, ◌<◌}
+use Prim.Native.Nat.{ℕ, ◌+◌, ◌≤◌, ◌<◌}
 use native.Mathlib.Nat.{le_antisymm}
 use native.Mathlib.Omega.{arith}
 use borrow.Author.Rules.{rules}
@@ -13,21 +11,13 @@ use lib.Dec.{eqb}
 use lib.ListN.{set}
 use Rattle.base.specs.Choose.{both}
 use Rattle.base.specs.Below.{sum, one}
-use Rattle.base.specs.Compacted.{passing, all_passing, Compacting, compact_starts, compact_goes}
+use Rattle.base.specs.Compacted.{all_passing, compact_starts, compact_goes}
 use Rattle.base.specs.SumLaws.{sum_goes}
 use Rattle.table.specs.Slots.{is_live, is_removed}
 use Rattle.table.specs.Sound.{coded_at, coded_test, agree_test, live_slots}
 use Rattle.table.specs.declared.CapTable.{CapTable}
-use Rattle.table_look.proofs.kinds_sound.Statement.{statement}
-use Rattle.table_look.proofs.kinds_sound.Tie as tie
-
--- The first i slots are done; xs₀ is the memory for the numbers as it was lent.
-record Done (ws : List ℕ) (slots : ℕ) (xs₀ xs : List ℕ) (n removed coded i : ℕ) : Type 0 where
-  live : Compacting (λ i. i) (is_live ws) slots xs₀ xs n i
-  few_removed : removed ≤ i
-  few_coded : coded ≤ i
-  removed_is : removed ≡ passing (is_removed ws) i
-  coded_is : coded ≡ passing (coded_at ws) i
+use Rattle.table_look.proofs.kinds_sound.Invariants.{Done}
+use Rattle.table_look.proofs.kinds_sound.Goals as goal
 
 starts : (ws : List ℕ) (slots : ℕ) (xs : List ℕ) → Done ws slots xs xs 0 0 0 0
 unfolding sum
@@ -82,37 +72,35 @@ module _ (ws : List ℕ) (t : CapTable) (xs₀ xs : List ℕ) (n removed coded i
       counted e =
           rw (coded_tested, eq-eqb coded t.slots all_coded, ← all_done.live.passed, eq-eqb n t.full e, ← all_done.removed_is)
 
-abbrev invariant-loop : tie.invariant-loop
-invariant-loop words t live₀ slots n₀ removed₀ coded₀ i₀ live n removed coded i = Done words slots live₀ live n removed coded i
-
-abbrev decreases-loop : tie.decreases-loop
-decreases-loop words t live₀ slots n₀ removed₀ coded₀ i₀ live n removed coded i = slots - i
-
 ruleset laws = (rules, starts, goes)
 
-returns : tie.Need-returns invariant-loop decreases-loop
-returns c =
-    let past = c.before.loop-test.false in
-    let done = c.before.before.loop.invariant in
-    (unlisted _ _ _ _ _ _ _ _ done past c.if1.true, written _ _ _ _ _ _ _ _ done past)
+pub loop-i-init : goal.loop-i-init
+loop-i-init c = search laws
 
-returns_2 : tie.Need-returns-2 invariant-loop decreases-loop
-returns_2 c =
-    let past = c.before.before.before.loop-test.false in
-    let done = c.before.before.before.before.loop.invariant in
-    (miscounted _ _ _ _ _ _ _ _ done past c.before.before.if1.false c.if2.true, written _ _ _ _ _ _ _ _ done past)
+pub loop-i-preserved : goal.loop-i-preserved
+loop-i-preserved c = search laws
 
-returns_3 : tie.Need-returns-3 invariant-loop decreases-loop
-returns_3 c =
-    let past = c.before.before.before.before.loop-test.false in
-    let done = c.before.before.before.before.before.loop.invariant in (
-      counted _ _ _ _ _ _ _ _ done past c.before.before.before.if1.false c.before.if2.false,
-      written _ _ _ _ _ _ _ _ done past,
-    )
+pub returns-then-coded-slots-clause-live_after : goal.returns-then-coded-slots-clause-live_after
+returns-then-coded-slots-clause-live_after c =
+    let past = c.loop-i-test.false in
+    let done = c.loop-i.invariant in written _ _ _ _ _ _ _ _ done past
 
-pub kinds-sound-spec : {M : Type 1} → statement M
-kinds-sound-spec =
-    tie.close
-    (tie.spec invariant-loop decreases-loop (λ c. search laws) (λ c. search laws) (λ c. search laws) (λ c. search laws) (λ c κs. search laws)
-    (λ c. search laws) (λ c κs. search laws) (λ c. search laws) (λ c κs. search laws) (λ c. search laws) (λ c. search laws)
-    (λ c. search laws) (λ c. search laws) returns returns_2 returns_3)
+pub returns-then-coded-slots-clause-value : goal.returns-then-coded-slots-clause-value
+returns-then-coded-slots-clause-value c =
+    let past = c.loop-i-test.false in
+    let done = c.loop-i.invariant in unlisted _ _ _ _ _ _ _ _ done past c.if-coded-slots.true
+
+pub returns-then-n-t-clause-live_after : goal.returns-then-n-t-clause-live_after
+returns-then-n-t-clause-live_after c =
+    let past = c.loop-i-test.false in
+    let done = c.loop-i.invariant in written _ _ _ _ _ _ _ _ done past
+
+pub returns-clause-live_after : goal.returns-clause-live_after
+returns-clause-live_after c =
+    let past = c.loop-i-test.false in
+    let done = c.loop-i.invariant in written _ _ _ _ _ _ _ _ done past
+
+pub returns-clause-value : goal.returns-clause-value
+returns-clause-value c =
+    let past = c.loop-i-test.false in
+    let done = c.loop-i.invariant in counted _ _ _ _ _ _ _ _ done past c.if-coded-slots.false c.if-n-t.false

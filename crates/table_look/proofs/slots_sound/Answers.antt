@@ -4,8 +4,7 @@ use mathlib.Core.Bool.{Bool, true, false, not}
 use mathlib.Core.List.{List}
 use Prim.Native.Nat.{ℕ, ◌≤◌, ◌<◌}
 use native.Mathlib.Omega.{arith}
-use borrow.Author.Rules.{rules}
-use borrow.Author.Tests.{not-true, not-false, eqb-true, lt-ltb}
+use borrow.Author.Tests.{not-false, eqb-true, lt-ltb}
 use lib.Dec.{eqb, ltb}
 use lib.ListN.{length, get_or, take, replicate, length-replicate}
 use lib.Seq.{length-take-le, get_or-take}
@@ -17,8 +16,7 @@ use Rattle.base.specs.SumLaws.{sum_one_le}
 use Rattle.table.specs.Slots.{is_live, is_removed}
 use Rattle.table.specs.Sound.{ends_here, coded_test, agree_test, found_test, live_slots}
 use Rattle.table.specs.declared.CapTable.{CapTable}
-use Rattle.table_look.proofs.slots_sound.Statement.{statement}
-use Rattle.table_look.proofs.slots_sound.Tie as tie
+use Rattle.table_look.proofs.slots_sound.Goals as goal
 
 abbrev zeros : List ℕ
 zeros = replicate 512 0
@@ -28,13 +26,6 @@ kinds ws t = both (coded_test ws t.slots) (agree_test ws t)
 
 abbrev passes : List ℕ → CapTable → Bool
 passes ws t = both (coded_test ws t.slots) (both (agree_test ws t) (found_test ws t.slots))
-
-fails : (ws : List ℕ) (t : CapTable) (r : Bool) → r ≡ kinds ws t → not r ≡ true → false ≡ passes ws t
-fails ws t r e bad = go (coded_test ws t.slots) (agree_test ws t) (sym e ∙ not-true r bad)
-  where
-    go : (coded counts : Bool) → both coded counts ≡ false → false ≡ both coded (both counts (found_test ws t.slots))
-    go true counts h = rw h
-    go false counts h = refl
 
 -- What is known where the kinds are sound: xs are the numbers of the live slots, and there are n of them.
 module _ (ws : List ℕ) (t : CapTable) (few : t.slots ≤ 512) (r : Bool) (e : r ≡ kinds ws t) (good : not r ≡ false) (xs : List ℕ)
@@ -80,25 +71,19 @@ module _ (ws : List ℕ) (t : CapTable) (few : t.slots ≤ 512) (r : Bool) (e : 
         → b ≡ passes ws t
     decides b h = rw (coded, counts) (h ∙ each (ends_here ws t.slots))
 
-array_share_prefix_live : tie.Need-array-share-prefix-live
-array_share_prefix_live c =
-    let called = c.before.kinds-sound.ensures in fits _ _ (omega arith) _ called.0 c.if1.false _ called.1
+pub slice_bounds-live-end : goal.slice_bounds-live-end
+slice_bounds-live-end c =
+    let called = c.kinds_sound.ensures in fits _ _ (omega arith) _ called.value (ap not c.if-not-kinds_sound.false) _ called.live_after
 
-slice_aggregate_all_found : tie.Need-slice-aggregate-all-found
-slice_aggregate_all_found c =
-    let called = c.before.before.kinds-sound.ensures in sym (taken _ _ (omega arith) _ called.0 c.before.if1.false _ called.1)
+pub slice_bounds-all_found-end : goal.slice_bounds-all_found-end
+slice_bounds-all_found-end c =
+    let called = c.kinds_sound.ensures in sym (taken _ _ (omega arith) _ called.value (ap not c.if-not-kinds_sound.false) _ called.live_after)
 
-all_found_requires : tie.Need-all-found-requires
-all_found_requires c κs =
-    let called = c.before.before.kinds-sound.ensures in
-    (omega arith, below _ _ (omega arith) _ called.0 c.before.if1.false _ called.1)
+pub all_found-requires-clause-slots_value : goal.all_found-requires-clause-slots_value
+all_found-requires-clause-slots_value c =
+    let called = c.kinds_sound.ensures in below _ _ (omega arith) _ called.value (ap not c.if-not-kinds_sound.false) _ called.live_after
 
-returns_2 : tie.Need-returns-2
-returns_2 c =
-    let called = c.before.before.before.kinds-sound.ensures in
-    decides _ _ (omega arith) _ called.0 c.before.before.if1.false _ called.1 _ c.all_found.ensures
-
-pub slots-sound-spec : {M : Type 1} → statement M
-slots-sound-spec =
-    tie.close
-    (tie.spec (λ c κs. search rules) (λ c. search fails) array_share_prefix_live slice_aggregate_all_found all_found_requires returns_2)
+pub returns : goal.returns
+returns c =
+    let called = c.kinds_sound.ensures in
+    decides _ _ (omega arith) _ called.value (ap not c.if-not-kinds_sound.false) _ called.live_after _ c.all_found.ensures

@@ -1,0 +1,36 @@
+use mathlib.Core.Path.{◌≡◌, ap, ◌∙◌}
+use mathlib.Core.Bool.{Bool, true}
+use mathlib.Core.List.{List}
+use Prim.Native.Nat.{ℕ, ◌<◌}
+use native.Mathlib.Omega.{arith}
+use borrow.Author.Rules.{rules}
+use borrow.Author.Tests.{ltb-true}
+use lib.Dec.{ltb}
+use lib.ListN.{length, get_or}
+use Rattle.base.specs.Below.{all}
+use Rattle.base.specs.AllLaws.{all_at, all_tests}
+use Rattle.table.specs.Sound.{ends_here}
+use Rattle.table_look.proofs.all_found.Goals as goal
+
+module _ (ws : List ℕ) (slots : ℕ) (live : List ℕ) (j i : ℕ) (this : i ≡ get_or live j 0) where
+  below : all (length live) (λ j. ltb (get_or live j 0) slots) ≡ true → j < length live → i < slots
+  below listed l =
+      omega (arith, ltb-true (get_or live j 0) slots (all_at (length live) (λ j. ltb (get_or live j 0) slots) listed j l))
+
+  -- What is tested is the search of the j-th slot.
+  tested : (r : Bool) → r ≡ ends_here ws slots i → r ≡ ends_here ws slots (get_or live j 0)
+  tested r e = e ∙ ap (ends_here ws slots) this
+
+ruleset laws = (rules, all_tests, below, tested)
+
+pub loop-j-init : goal.loop-j-init
+loop-j-init c = search laws
+
+pub is_found-requires : goal.is_found-requires
+is_found-requires c = search laws
+
+pub loop-j-preserved : goal.loop-j-preserved
+loop-j-preserved c = search laws
+
+pub returns-else-is_found : goal.returns-else-is_found
+returns-else-is_found c = search laws
