@@ -4,7 +4,9 @@
 // the stream before it.
 #![tactic(auto)]
 
-use libc::{STDIN_FILENO, STDOUT_FILENO};
+// The numbers that the system gives the two streams of a program.
+const STDIN_FILENO: i32 = 0;
+const STDOUT_FILENO: i32 = 1;
 
 #[derive(Clone, Copy)]
 struct Head {

@@ -7,7 +7,10 @@ mod call;
 mod line;
 
 use call::Outcome;
-use libc::{STDIN_FILENO, STDOUT_FILENO};
+
+// The numbers that the system gives the two streams of a program.
+const STDIN_FILENO: i32 = 0;
+const STDOUT_FILENO: i32 = 1;
 
 fn print(place: u64, number: u64, outcome: Outcome) {
     io::print_decimal(STDOUT_FILENO, place);
