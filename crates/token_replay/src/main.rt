@@ -10,6 +10,7 @@ use call::Outcome;
 
 // The numbers that the system gives the two streams of a program.
 const STDIN_FILENO: i32 = 0;
+
 const STDOUT_FILENO: i32 = 1;
 
 fn print(place: u64, number: u64, outcome: Outcome) {

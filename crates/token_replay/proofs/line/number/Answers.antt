@@ -1,15 +1,13 @@
--- `line::number` meets its contract: before each turn the digits passed spell the value.
 use mathlib.Core.Path.{◌≡◌, refl}
 use mathlib.Core.List.{List}
-use Prim.Native.Nat.{ℕ, zero, suc, ◌+◌, ◌-◌, ◌*◌, ◌^◌, ◌≤◌, ◌<◌}
+use Prim.Native.Nat.{ℕ, zero, suc, ◌+◌, ◌*◌, ◌^◌, ◌≤◌, ◌<◌}
 use native.Mathlib.Nat.{pow-suc, pow-le-pow_right}
 use native.Mathlib.Numerals.{add-one}
 use native.Mathlib.Omega.{arith}
 use borrow.Author.Rules.{rules}
 use lib.ListN.{get_or}
 use Rattle.token_replay.specs.Line.{digit_of, spelt}
-use Rattle.token_replay.proofs.line.number.Statement.{statement}
-use Rattle.token_replay.proofs.line.number.Tie as tie
+use Rattle.token_replay.proofs.line.number.Goals as goal
 
 below : (line : List ℕ) (at n : ℕ) → spelt line at n < 16 ^ n
 unfolding spelt
@@ -35,14 +33,11 @@ ends line at i n v is within past = let same : i ≡ n = omega arith in cc
 
 ruleset number_laws = (rules, room, starts, goes, ends)
 
-abbrev invariant-loop : tie.invariant-loop
-invariant-loop line at n value₀ i₀ value i = (i ≤ n) × (value ≡ spelt line at i)
+pub loop-i-init : goal.loop-i-init
+loop-i-init c = search number_laws
 
-abbrev decreases-loop : tie.decreases-loop
-decreases-loop line at n value₀ i₀ value i = n - i
+pub with_digit-value-requires : goal.with_digit-value-requires
+with_digit-value-requires c = search number_laws
 
-pub number-spec : {M : Type 1} → statement M
-number-spec =
-    tie.close
-    (tie.spec invariant-loop decreases-loop (λ c. search number_laws) (λ c. search number_laws) (λ c. search number_laws) (λ c κs. search number_laws)
-    (λ c. search number_laws) (λ c. search number_laws) (λ c. search number_laws) (λ c. search number_laws))
+pub loop-i-preserved : goal.loop-i-preserved
+loop-i-preserved c = search number_laws

@@ -1,0 +1,11 @@
+-- `line::number` meets its contract: before each turn the digits passed spell the value.
+use mathlib.Core.Path.{◌≡◌}
+use Prim.Native.Nat.{◌-◌, ◌≤◌}
+use Rattle.token_replay.specs.Line.{spelt}
+use Rattle.token_replay.proofs.line.number.Given as goal
+
+abbrev pub invariant-loop-i : goal.invariant-loop-i
+invariant-loop-i l = (l.i ≤ l.n) × (l.value ≡ spelt l.line l.at l.i)
+
+abbrev pub decreases-loop-i : goal.decreases-loop-i
+decreases-loop-i l = l.n - l.i
