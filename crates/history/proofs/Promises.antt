@@ -35,7 +35,7 @@ pub short_walks : ShortWalks
 short_walks d quotas mem done history = walk_is_short _ _ (lasts_after history _ (opening_opens d quotas mem done).sound).sound
 
 pub visits_answered : VisitsAnswered
-visits_answered d quotas mem done history = visits.visits-answered _ (lasts_after history _ (opening_opens d quotas mem done).sound).sound
+visits_answered d quotas mem done history = visits.visits_answered _ (lasts_after history _ (opening_opens d quotas mem done).sound).sound
 
 pub few_moves : FewMoves
 few_moves d quotas mem done history closed s inside =

@@ -82,21 +82,21 @@ abbrev pub Walked : List ℕ → Call → ℕ → Type 0
 Walked mem call visits = (w : Walk) × (Walks mem call w × (visits ≡ w.visits))
 
 pub record VisitsOf (mem : List ℕ) (s : ℕ) : Type 0 where
-  pub of_lookup : (token : ℕ) → Walked mem (changes (space_lookup s token)) (space_reads.lookupOut mem s token).reply.count
+  pub of_lookup : (token : ℕ) → Walked mem (changes (space_lookup s token)) (space_reads.lookup_out mem s token).reply.count
   pub of_lookup_entry :
-      (token : ℕ) → Walked mem (changes (space_lookup_entry s token)) (space_reads.lookupEntryOut mem s token).reply.visits
+      (token : ℕ) → Walked mem (changes (space_lookup_entry s token)) (space_reads.lookup_entry_out mem s token).reply.visits
   pub of_check_rights :
       (token required : ℕ)
-      → Walked mem (changes (space_check_rights s token required)) (space_reads.checkRightsOut mem s token required).reply.count
-  pub of_get_entry : (id : ℕ) → id < 2 ^ 48 → Walked mem (reads (space_get_entry s id)) (space_reads.getEntryOut mem s id).visits
-  pub of_remove : (token : ℕ) → Walked mem (changes (space_remove s token)) (space.removeOut mem s token).reply.count
+      → Walked mem (changes (space_check_rights s token required)) (space_reads.check_rights_out mem s token required).reply.count
+  pub of_get_entry : (id : ℕ) → id < 2 ^ 48 → Walked mem (reads (space_get_entry s id)) (space_reads.get_entry_out mem s id).visits
+  pub of_remove : (token : ℕ) → Walked mem (changes (space_remove s token)) (space.remove_out mem s token).reply.count
   pub of_space_revoke :
       (id : ℕ) (t : CapabilityToken) → made id (generation_of (space_of (numbers_of mem) s mem)) 0 0 ≡ Token t
-      → Walked mem (changes (space_revoke s id)) (space.revokeOut mem s id).reply.count
-  pub of_check : (token required : ℕ) → Walked mem (changes (check token required s)) (manager.checkOut mem token required s).reply.count
+      → Walked mem (changes (space_revoke s id)) (space.revoke_out mem s id).reply.count
+  pub of_check : (token required : ℕ) → Walked mem (changes (check token required s)) (manager.check_out mem token required s).reply.count
   pub of_revoke_held :
       (token time : ℕ) (listed : List ℕ) → length listed ≤ 32
-      → Walked mem (changes (revoke_held s token time listed)) (revocation.revokeHeldOut mem s token time listed).reply.count
+      → Walked mem (changes (revoke_held s token time listed)) (revocation.revoke_held_out mem s token time listed).reply.count
 
 abbrev pub VisitsAnswered : Type 0
 VisitsAnswered =

@@ -39,32 +39,32 @@ pids = 1 ∷ 2 ∷ []
 -- 14 drain (A pid), to an area of its own for 256 notices.
 unfoldable pub drained : ℕ → List ℕ → Left Reply
 drained pid mem =
-    let out = notification.drainOut mem pid (replicate 768 0) in
+    let out = notification.drain_out mem pid (replicate 768 0) in
     record { reply = out.reply.reply; memory = out.memory }
 
 -- 1 create, 2 delegate, 3 lookup, 4 check, 5 remove.
 unfoldable pub called_1_to_5 : Request → List ℕ → Left Reply
 called_1_to_5 r mem =
-    when (eqb r.op 1) (manager.createOut mem r.space r.a (eqb r.valid 1) r.cap_type r.rights)
+    when (eqb r.op 1) (manager.create_out mem r.space r.a (eqb r.valid 1) r.cap_type r.rights)
     (when (eqb r.op 2) (delegate_out mem r.a r.space r.second r.rights)
     (when (eqb r.op 3) (lookup_out mem r.space r.a)
-    (when (eqb r.op 4) (manager.checkOut mem r.a r.rights r.space) (space.removeOut mem r.space r.a))))
+    (when (eqb r.op 4) (manager.check_out mem r.a r.rights r.space) (space.remove_out mem r.space r.a))))
 
 -- 6 delete, 7 held revoke, 8 clear, 9 copy, 10 `revoke_all`.
 unfoldable pub called_6_to_10 : Request → List ℕ → Left Reply
 called_6_to_10 r mem =
-    when (eqb r.op 6) (manager.deleteOut mem r.a)
-    (when (eqb r.op 7) (revocation.revokeHeldOut mem r.space r.a r.b pids)
-    (when (eqb r.op 8) (space.clearOut mem r.space)
-    (when (eqb r.op 9) (space.copyOut mem r.space r.second) (space.revokeAllOut mem r.space))))
+    when (eqb r.op 6) (manager.delete_out mem r.a)
+    (when (eqb r.op 7) (revocation.revoke_held_out mem r.space r.a r.b pids)
+    (when (eqb r.op 8) (space.clear_out mem r.space)
+    (when (eqb r.op 9) (space.copy_out mem r.space r.second) (space.revoke_all_out mem r.space))))
 
 -- 11 insert, 12 space-made create, 13 space revoke, 14 drain, 15 `revoke_capability`.
 unfoldable pub called_11_to_15 : Request → List ℕ → Left Reply
 called_11_to_15 r mem =
-    when (eqb r.op 11) (space.insertCallOut mem r.space r.a r.b r.rights)
-    (when (eqb r.op 12) (space.createOut mem r.space r.rights r.a)
-    (when (eqb r.op 13) (space.revokeOut mem r.space r.a)
-    (when (eqb r.op 14) (drained r.a mem) (revocation.revokeCapabilityOut mem r.a r.b pids))))
+    when (eqb r.op 11) (space.insert_call_out mem r.space r.a r.b r.rights)
+    (when (eqb r.op 12) (space.create_out mem r.space r.rights r.a)
+    (when (eqb r.op 13) (space.revoke_out mem r.space r.a)
+    (when (eqb r.op 14) (drained r.a mem) (revocation.revoke_capability_out mem r.a r.b pids))))
 
 -- It is asked for an op of 1 to 15 alone.
 unfoldable pub called : Request → List ℕ → Left Reply

@@ -67,7 +67,7 @@ fn serve(
 
 // The records, 2,048 at most, each with its line; answers the place behind the last line.
 fn serve_all(records: &[u8], mem: &mut [u64], lines: &mut [u8]) -> usize
-    requires { 28 * spec.linesFor (length records.now) ≤ length lines.old }
+    requires { 28 * spec.lines_for (length records.now) ≤ length lines.old }
     ensures { spec.Ran records.now mem.old mem.new lines.old lines.new result }
 {
     let mut left = 2048u64;
@@ -95,7 +95,7 @@ fn serve_all(records: &[u8], mem: &mut [u64], lines: &mut [u8]) -> usize
 
 // How many lines there are at most for n bytes.
 fn lines_for(n: usize) -> usize
-    ensures { (result ≡ spec.linesFor n) × (result ≤ 2049) }
+    ensures { (result ≡ spec.lines_for n) × (result ≤ 2049) }
 {
     if 49152 < n {
         return 2049;
@@ -106,7 +106,7 @@ fn lines_for(n: usize) -> usize
 // Opens the program's world and serves the records; the value is how many bytes of `lines` are written.
 pub fn run(records: &[u8], mem: &mut [u64], lines: &mut [u8]) -> Reply
     ensures mem_after { record { reply = record { reply = result; area = lines.new }; memory = mem.new }
-        ≡ spec.runOut records.now mem.old lines.old }
+        ≡ spec.run_out records.now mem.old lines.old }
     ensures value_in_bounds { result.value ≤ length lines.new }
 {
     if lines.len() < 28 * lines_for(records.len()) {
@@ -128,8 +128,8 @@ pub fn run(records: &[u8], mem: &mut [u64], lines: &mut [u8]) -> Reply
 
 // The whole program but its input and output: a run on a memory of its own. Answers how many bytes of `lines` are written.
 pub fn run_alone(records: &[u8], lines: &mut [u8; ROOM]) -> usize
-    ensures lines_after { (lines.new ≡ written (spec.programLines records.now) lines.old)
-        × (result ≡ length (spec.programLines records.now)) }
+    ensures lines_after { (lines.new ≡ written (spec.program_lines records.now) lines.old)
+        × (result ≡ length (spec.program_lines records.now)) }
     ensures upper_bound { result ≤ length lines.new }
 {
     let mut mem = [0u64; WORDS];

@@ -47,7 +47,7 @@ unfolding next_power all first first_from sum when is_new differ_test sifted wri
 base = tt
 
 unfoldable pub walks : Unit {0}
-unfolding home_of walk steps_to_stop steps_to_free free_for search sound.soundTest
+unfolding home_of walk steps_to_stop steps_to_free free_for search sound.sound_test
 walks = tt
 
 unfoldable pub inserts : Unit {0}

@@ -14,7 +14,7 @@ pub record SoundSpace (most : ℕ) (sp : List ℕ) : Type 0 where
 
 unfoldable pub space_test : ℕ → List ℕ → Bool
 space_test most sp =
-    both (nat_lt (generation_of sp) (2 ^ 8)) (both (nat_le (quota_of sp) most) (table.soundTest most (slot_words sp) (table_of sp)))
+    both (nat_lt (generation_of sp) (2 ^ 8)) (both (nat_le (quota_of sp) most) (table.sound_test most (slot_words sp) (table_of sp)))
 
 -- A sound space in as many words as `most` asks: what every call keeps.
 pub record SpaceOf (most : ℕ) (sp : List ℕ) : Type 0 where

@@ -21,10 +21,10 @@ module _ (d : Numbers) (mem : List ℕ) where
   queue_is q l =
       part-part (queues_at d) (d.queues * 771) (q * 771) 771 mem (omega (arith, mul-le-mul_right 771 l, suc-mul q 771))
 
-  pub queues_passed : rules.queuesTest d.queues queues ≡ queues_test d mem
-  unfolding rules.queuesTest queues_test
+  pub queues_passed : rules.queues_test d.queues queues ≡ queues_test d mem
+  unfolding rules.queues_test queues_test
   queues_passed =
       ap₂ both
-      (all_ext d.queues (λ q. rules.queueTest (queue_at queues q)) (λ q. rules.queueTest (view d (queue q) mem))
+      (all_ext d.queues (λ q. rules.queue_test (queue_at queues q)) (λ q. rules.queue_test (view d (queue q) mem))
       (λ q l. rw (queue_is q l)))
       (all_ext d.queues _ _ (λ j l. all_ext j _ _ (λ i u. rw (queue_is i (omega arith), queue_is j l))))

@@ -23,13 +23,13 @@ abbrev pub registered_ids : Numbers → List ℕ → List ℕ
 registered_ids d mem = take (registered_of mem) (view d registry mem)
 
 abbrev pub states : Numbers → List ℕ → ℕ → ℕ
-states d mem = reg.stateAt d.places (view d registry mem)
+states d mem = reg.state_at d.places (view d registry mem)
 
 abbrev pub links : Numbers → List ℕ → ℕ → ℕ
 links d mem = reg.link_at d.places (view d registry mem)
 
 abbrev pub recycled : Numbers → List ℕ → ℕ → ℕ
-recycled d mem = reg.recycledAt d.places (view d registry mem)
+recycled d mem = reg.recycled_at d.places (view d registry mem)
 
 abbrev pub log_pairs : Numbers → List ℕ → ℕ → ℕ
 log_pairs d mem = pair_at (view d log mem)

@@ -20,7 +20,7 @@ module _ (d : Numbers) (r : Region) (mem : List ℕ) where
 
   -- A word that is set is a region changed.
   pub set_region : (i v : ℕ) → i < size_of d r → set mem (start_of d r + i) v ≡ on_region d r (λ ws. set ws i v) mem
-  set_region i v l = sym (part.onPart-set (start_of d r) (size_of d r) mem i v l)
+  set_region i v l = sym (part.on_part-set (start_of d r) (size_of d r) mem i v l)
 
   -- What a call is lent that is lent the region, from a up to e,
   pub lent_view : (a e : ℕ) → a ≡ start_of d r → a + size_of d r ≡ e → take (e - a) (drop a mem) ≡ view d r mem
@@ -29,7 +29,7 @@ module _ (d : Numbers) (r : Region) (mem : List ℕ) where
   -- and what it leaves.
   pub lent_region : (a e : ℕ) (f : List ℕ → List ℕ) (ws : List ℕ) → a ≡ start_of d r → a + size_of d r ≡ e
       → ws ≡ f (take (e - a) (drop a mem)) → take a mem ++ (ws ++ drop (e - a) (drop a mem)) ≡ on_region d r f mem
-  lent_region a e f ws at w h = part.lent a (size_of d r) e f mem ws w h ∙ ap (λ b. part.onPart b (size_of d r) f mem) at
+  lent_region a e f ws at w h = part.lent a (size_of d r) e f mem ws w h ∙ ap (λ b. part.on_part b (size_of d r) f mem) at
 
 -- How many words the registry and a queue have.
 pub registry_words : (d : Numbers) (mem : List ℕ) → length_for d ≤ length mem → 5 * d.places + 1 ≤ length (view d registry mem)
@@ -69,22 +69,22 @@ module _ (d : Numbers) (r : Region) (f : List ℕ → List ℕ) (mem : List ℕ)
   fits = within d r f mem ch
 
   pub length_kept : length (on_region d r f mem) ≡ length mem
-  length_kept = part.length-onPart (start_of d r) (size_of d r) f mem ch.kept
+  length_kept = part.length-on_part (start_of d r) (size_of d r) f mem ch.kept
 
   pub view_same : view d r (on_region d r f mem) ≡ f (view d r mem)
-  view_same = part.part-onPart (start_of d r) (size_of d r) f mem fits ch.kept
+  view_same = part.part-on_part (start_of d r) (size_of d r) f mem fits ch.kept
 
   pub view_other : (r' : Region) → Valid d r' → same r r' ≡ false → view d r' (on_region d r f mem) ≡ view d r' mem
   view_other r' valid' differ =
       ⊎_elim
-      (part.part-onPart-after (start_of d r) (size_of d r) f mem fits ch.kept (start_of d r') (size_of d r'))
-      (part.part-onPart-before (start_of d r) (size_of d r) f mem fits (start_of d r') (size_of d r'))
+      (part.part-on_part_after (start_of d r) (size_of d r) f mem fits ch.kept (start_of d r') (size_of d r'))
+      (part.part-on_part_before (start_of d r) (size_of d r) f mem fits (start_of d r') (size_of d r'))
       (apart d r r' ch.valid valid' differ)
 
   pub past_kept : drop (length_for d) (on_region d r f mem) ≡ drop (length_for d) mem
   past_kept =
       sym (all (on_region d r f mem) length_kept)
-      ∙ part.part-onPart-after (start_of d r) (size_of d r) f mem fits ch.kept (length_for d) (length mem) (inside d r ch.valid)
+      ∙ part.part-on_part_after (start_of d r) (size_of d r) f mem fits ch.kept (length_for d) (length mem) (inside d r ch.valid)
       ∙ all mem refl
     where
       all : (xs : List ℕ) → length xs ≡ length mem → take (length mem) (drop (length_for d) xs) ≡ drop (length_for d) xs
@@ -100,4 +100,4 @@ module _ (d : Numbers) (r : Region) (f : List ℕ → List ℕ) (mem : List ℕ)
 
   -- Two changes of one region are one after the other.
   pub changed_twice : (g : List ℕ → List ℕ) → on_region d r g (on_region d r f mem) ≡ on_region d r (λ ws. g (f ws)) mem
-  changed_twice g = part.onPart-twice (start_of d r) (size_of d r) f mem fits ch.kept g
+  changed_twice g = part.on_part_twice (start_of d r) (size_of d r) f mem fits ch.kept g

@@ -70,7 +70,7 @@ module _ (mem : List ℕ) (sound : Sound mem) (s : ℕ) (inside : s < (numbers_o
     module _ (k : create.Took mem t object valid cap_type rights) (room : registered_of mem < (numbers_of mem).places) where
       -- its entry refused,
       undone :
-          (none : ¬ Accepts (space_of (numbers_of mem) t mem) (create.entryFor mem t object valid cap_type rights k))
+          (none : ¬ Accepts (space_of (numbers_of mem) t mem) (create.entry_for mem t object valid cap_type rights k))
           → Quiet (numbers_of mem) s mem (create.out_of mem t object valid cap_type rights (create.refused k room none)).memory
       undone none =
           quiet_trans d s mem taken _ took
@@ -78,7 +78,7 @@ module _ (mem : List ℕ) (sound : Sound mem) (s : ℕ) (inside : s < (numbers_o
 
       -- or accepted.
       accepted :
-          (takes : Accepts (space_of (numbers_of mem) t mem) (create.entryFor mem t object valid cap_type rights k))
+          (takes : Accepts (space_of (numbers_of mem) t mem) (create.entry_for mem t object valid cap_type rights k))
           → Paid (create.out_of mem t object valid cap_type rights (create.accepted k room takes))
       accepted takes =
           let recording = create.recording mem t object valid cap_type rights k room in
@@ -87,8 +87,8 @@ module _ (mem : List ℕ) (sound : Sound mem) (s : ℕ) (inside : s < (numbers_o
           (quiet_trans d s mem taken recorded took
           (changed_quiet d s inside _ _ _ _ _ (register_step_changes d taken taken_sound k.id object 0 recording.room)))
           (admission_pays d s inside recorded (registered_kept d taken k.id object 0 recording).sound t k.asked.there
-          (create.entryFor mem t object valid cap_type rights k) fits
-          (rw (create.recorded-space mem t object valid cap_type rights k room) takes) created_word (omega arith) (omega arith))
+          (create.entry_for mem t object valid cap_type rights k) fits
+          (rw (create.recorded_space mem t object valid cap_type rights k room) takes) created_word (omega arith) (omega arith))
 
     pub create_pays : Paid (create_out mem t object valid cap_type rights)
     create_pays = subst Paid (sym (create.goes mem t object valid cap_type rights way)) (go way)
@@ -102,8 +102,8 @@ module _ (mem : List ℕ) (sound : Sound mem) (s : ℕ) (inside : s < (numbers_o
         go : (w : create.Way mem t object valid cap_type rights) → Paid (create.out_of mem t object valid cap_type rights w)
         go (create.bad_world bad) = unpaid _
         go (create.bad_space sound far) = unpaid _
-        go (create.bad-type sound there over) = unpaid _
-        go (create.bad-object sound there fits off) = unpaid _
+        go (create.bad_type sound there over) = unpaid _
+        go (create.bad_object sound there fits off) = unpaid _
         go (create.exhausted a is) = quiet_pays d s mem taken t _ took
         go (create.full k over) = quiet_pays d s mem _ t _ (back k)
         go (create.refused k room none) = quiet_pays d s mem _ t _ (undone k room none)

@@ -135,7 +135,7 @@ module _ (mem : List ℕ) (s : ℕ) (inside : s < (numbers_of mem).spaces) (toke
       recorded = delegate.recorded mem token source target rights t
 
       abbrev child : CapabilityEntry
-      child = delegate.childEntry mem token source target rights t
+      child = delegate.child_entry mem token source target rights t
 
       listed_along : From (with_list mem token source target rights g)
       listed_along =
@@ -186,15 +186,15 @@ module _ (mem : List ℕ) (s : ℕ) (inside : s < (numbers_of mem).spaces) (toke
       (g : delegate.Good mem token source target rights)
       (room : registered_of (delegate.from mem token source target rights g.took) < (numbers_of mem).places)
       (takes : Accepts (space_of (numbers_of mem) target (delegate.from mem token source target rights g.took))
-      (delegate.childEntry mem token source target rights g.took))
+      (delegate.child_entry mem token source target rights g.took))
       → Paid (delegate.out_of mem token source target rights (delegate.accepted g room takes))
   accepted g room takes =
       let came = recorded_along g room in
       rw (ne_eqb _ _ (counted g room))
       (quiet_first d s mem _ _ _ _ came.quiet
       (admission_pays d s inside _ came.sound target g.took.asked.granted.entered.to
-      (delegate.childEntry mem token source target rights g.took) (small g room)
-      (rw (delegate.recorded-space mem token source target rights g.took g.inside g.good room) takes) delegated_word (omega arith)
+      (delegate.child_entry mem token source target rights g.took) (small g room)
+      (rw (delegate.recorded_space mem token source target rights g.took g.inside g.good room) takes) delegated_word (omega arith)
       (omega arith)))
 
   pub delegate_pays : Paid (delegate_out mem token source target rights)
@@ -208,8 +208,8 @@ module _ (mem : List ℕ) (s : ℕ) (inside : s < (numbers_of mem).spaces) (toke
 
       go : (w : delegate.Way mem token source target rights) → Paid (delegate.out_of mem token source target rights w)
       go (delegate.bad_world bad) = unpaid mem _ (quiet_refl d s mem)
-      go (delegate.bad-source sound far) = unpaid mem _ (quiet_refl d s mem)
-      go (delegate.bad-target sound there far) = unpaid mem _ (quiet_refl d s mem)
+      go (delegate.bad_source sound far) = unpaid mem _ (quiet_refl d s mem)
+      go (delegate.bad_target sound there far) = unpaid mem _ (quiet_refl d s mem)
       go (delegate.absent entered none) = unpaid _ _ (looked entered).quiet
       go (delegate.ungranted entered e found none) = unpaid _ _ (looked entered).quiet
       go (delegate.reused g held) = unpaid _ _ (offered g).quiet

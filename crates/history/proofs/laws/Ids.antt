@@ -41,47 +41,47 @@ module _ (mem : List ℕ) (sound : Sound mem) (x : ℕ) (spent : Spent mem x) wh
 
   accept_frees_none : (call : Accepting) → NoneFreed (numbers_of mem) mem (accept call mem).memory
   unfolding accept
-  accept_frees_none (space_insert s token object rights fits) = space_frees_none mem s _ (space.insert-only mem s token object rights fits)
-  accept_frees_none (space_copy target source) = space_frees_none mem target _ (space.copy-only mem target source)
+  accept_frees_none (space_insert s token object rights fits) = space_frees_none mem s _ (space.insert_only mem s token object rights fits)
+  accept_frees_none (space_copy target source) = space_frees_none mem target _ (space.copy_only mem target source)
   accept_frees_none (space_create s rights object fits) = space_create_frees_none mem s rights object fits
-  accept_frees_none (create s object valid cap_type rights fits) = manager.create-frees-none mem s object valid cap_type rights fits
-  accept_frees_none (delegate token source target rights fits) = manager.delegate-frees-none mem token source target rights fits
+  accept_frees_none (create s object valid cap_type rights fits) = manager.create_frees_none mem s object valid cap_type rights fits
+  accept_frees_none (delegate token source target rights fits) = manager.delegate_frees_none mem token source target rights fits
 
   -- A call that frees no id.
   changed : (call : Changing) → NoneFreed (numbers_of mem) mem (change call mem).memory → Spent (change call mem).memory x
-  changed call none = manager.spent-after mem sound x spent _ (change_kept mem sound call) none
+  changed call none = manager.spent_after mem sound x spent _ (change_kept mem sound call) none
 
   change_spent : (call : Changing) → NotGivenBack x (changes call) mem → Spent (change call mem).memory x
   unfolding change
-  change_spent (space_lookup s token) kept = changed (space_lookup s token) (space_frees_none mem s _ (space.lookup-only mem s token))
+  change_spent (space_lookup s token) kept = changed (space_lookup s token) (space_frees_none mem s _ (space.lookup_only mem s token))
   change_spent (space_lookup_entry s token) kept =
-      changed (space_lookup_entry s token) (space_frees_none mem s _ (space.lookup-entry-only mem s token))
+      changed (space_lookup_entry s token) (space_frees_none mem s _ (space.lookup_entry_only mem s token))
   change_spent (space_check_rights s token required) kept =
-      changed (space_check_rights s token required) (space_frees_none mem s _ (space.check-rights-only mem s token required))
-  change_spent (space_remove s token) kept = changed (space_remove s token) (space_frees_none mem s _ (space.remove-only mem s token))
+      changed (space_check_rights s token required) (space_frees_none mem s _ (space.check_rights_only mem s token required))
+  change_spent (space_remove s token) kept = changed (space_remove s token) (space_frees_none mem s _ (space.remove_only mem s token))
   change_spent (space_increment_generation s) kept =
-      changed (space_increment_generation s) (space_frees_none mem s _ (space.increment-only mem s))
-  change_spent (space_clear s) kept = changed (space_clear s) (space_frees_none mem s _ (space.clear-only mem s))
-  change_spent (space_revoke_all s) kept = changed (space_revoke_all s) (space_frees_none mem s _ (space.revoke-all-only mem s))
-  change_spent (space_revoke s id) kept = changed (space_revoke s id) (space_frees_none mem s _ (space.revoke-only mem s id))
+      changed (space_increment_generation s) (space_frees_none mem s _ (space.increment_only mem s))
+  change_spent (space_clear s) kept = changed (space_clear s) (space_frees_none mem s _ (space.clear_only mem s))
+  change_spent (space_revoke_all s) kept = changed (space_revoke_all s) (space_frees_none mem s _ (space.revoke_all_only mem s))
+  change_spent (space_revoke s id) kept = changed (space_revoke s id) (space_frees_none mem s _ (space.revoke_only mem s id))
   change_spent alloc_cap_id kept = changed alloc_cap_id (alloc_frees_none mem)
-  change_spent (delete token) kept = manager.delete-spent mem sound x spent token (kept token refl)
-  change_spent (check token required s) kept = changed (check token required s) (manager.check-frees-none mem token required s)
+  change_spent (delete token) kept = manager.delete_spent mem sound x spent token (kept token refl)
+  change_spent (check token required s) kept = changed (check token required s) (manager.check_frees_none mem token required s)
   change_spent (revoke token time listed) kept =
-      changed (revoke token time listed) (revocation.revoke-steady mem sound (NoneFreed d) (ids_steady d) token time listed)
+      changed (revoke token time listed) (revocation.revoke_steady mem sound (NoneFreed d) (ids_steady d) token time listed)
   change_spent (revoke_capability token time listed) kept =
       changed (revoke_capability token time listed)
-      (revocation.revoke-capability-steady mem sound (NoneFreed d) (ids_steady d) token time listed)
+      (revocation.revoke_capability_steady mem sound (NoneFreed d) (ids_steady d) token time listed)
   change_spent (revoke_held s token time listed) kept =
-      changed (revoke_held s token time listed) (revocation.held-revoke-steady mem sound (NoneFreed d) (ids_steady d) s token time listed)
+      changed (revoke_held s token time listed) (revocation.held_revoke_steady mem sound (NoneFreed d) (ids_steady d) s token time listed)
   change_spent (revoke_batch tokens time listed) kept =
-      changed (revoke_batch tokens time listed) (revocation.batch-steady mem sound (NoneFreed d) (ids_steady d) tokens time listed)
+      changed (revoke_batch tokens time listed) (revocation.batch_steady mem sound (NoneFreed d) (ids_steady d) tokens time listed)
   change_spent (notify_process pid id reason time) kept =
-      changed (notify_process pid id reason time) (revocation.notify-steady mem sound (NoneFreed d) (ids_steady d) pid id reason time)
+      changed (notify_process pid id reason time) (revocation.notify_steady mem sound (NoneFreed d) (ids_steady d) pid id reason time)
   change_spent (drain_notifications pid area) kept =
-      changed (drain_notifications pid area) (revocation.drain-steady mem sound (NoneFreed d) (ids_steady d) pid area)
+      changed (drain_notifications pid area) (revocation.drain_steady mem sound (NoneFreed d) (ids_steady d) pid area)
   change_spent (cleanup_process_notifications pid) kept =
-      changed (cleanup_process_notifications pid) (revocation.cleanup-steady mem sound (NoneFreed d) (ids_steady d) pid)
+      changed (cleanup_process_notifications pid) (revocation.cleanup_steady mem sound (NoneFreed d) (ids_steady d) pid)
 
   -- After every call but an opening given 0 and the id's own deletion.
   pub call_spent : (call : Call) → reopens call mem ≡ false → NotGivenBack x call mem → Spent (perform call mem).memory x
@@ -89,7 +89,7 @@ module _ (mem : List ℕ) (sound : Sound mem) (x : ℕ) (spent : Spent mem x) wh
   call_spent (open_world d quotas) refused kept = subst (λ after. Spent after x) (sym (opening_refused d quotas mem refused)) spent
   call_spent (reads call) refused kept = spent
   call_spent (accepts call) refused kept =
-      manager.spent-after mem sound x spent _ (accept_kept mem sound call) (accept_frees_none call)
+      manager.spent_after mem sound x spent _ (accept_kept mem sound call) (accept_frees_none call)
   call_spent (changes call) refused kept = change_spent call kept
 
 -- So after every history without these.

@@ -22,32 +22,32 @@ use Rattle.history.proofs.laws.Opening.{Lasts, lasts_refl, opening_refused, open
 module _ (mem : List ℕ) (sound : Sound mem) where
   pub accept_kept : (call : Accepting) → Kept (numbers_of mem) mem (accept call mem).memory
   unfolding accept
-  accept_kept (space_insert s token object rights fits) = space.insert-keeps mem sound s token object rights fits
-  accept_kept (space_copy target source) = space.copy-keeps mem sound target source
-  accept_kept (space_create s rights object fits) = space.create-keeps mem sound s rights object fits
-  accept_kept (create s object valid cap_type rights fits) = manager.create-keeps mem sound s object valid cap_type rights fits
-  accept_kept (delegate token source target rights fits) = manager.delegate-keeps mem sound token source target rights fits
+  accept_kept (space_insert s token object rights fits) = space.insert_keeps mem sound s token object rights fits
+  accept_kept (space_copy target source) = space.copy_keeps mem sound target source
+  accept_kept (space_create s rights object fits) = space.create_keeps mem sound s rights object fits
+  accept_kept (create s object valid cap_type rights fits) = manager.create_keeps mem sound s object valid cap_type rights fits
+  accept_kept (delegate token source target rights fits) = manager.delegate_keeps mem sound token source target rights fits
 
   pub change_kept : (call : Changing) → Kept (numbers_of mem) mem (change call mem).memory
   unfolding change
-  change_kept (space_lookup s token) = space.lookup-keeps mem sound s token
-  change_kept (space_lookup_entry s token) = space.lookup-entry-keeps mem sound s token
-  change_kept (space_check_rights s token required) = space.check-rights-keeps mem sound s token required
-  change_kept (space_remove s token) = space.remove-keeps mem sound s token
-  change_kept (space_increment_generation s) = space.increment-keeps mem sound s
-  change_kept (space_clear s) = space.clear-keeps mem sound s
-  change_kept (space_revoke_all s) = space.revoke-all-keeps mem sound s
-  change_kept (space_revoke s id) = space.revoke-keeps mem sound s id
+  change_kept (space_lookup s token) = space.lookup_keeps mem sound s token
+  change_kept (space_lookup_entry s token) = space.lookup_entry_keeps mem sound s token
+  change_kept (space_check_rights s token required) = space.check_rights_keeps mem sound s token required
+  change_kept (space_remove s token) = space.remove_keeps mem sound s token
+  change_kept (space_increment_generation s) = space.increment_keeps mem sound s
+  change_kept (space_clear s) = space.clear_keeps mem sound s
+  change_kept (space_revoke_all s) = space.revoke_all_keeps mem sound s
+  change_kept (space_revoke s id) = space.revoke_keeps mem sound s id
   change_kept alloc_cap_id = space.alloc_keeps mem sound
-  change_kept (delete token) = manager.delete-keeps mem sound token
-  change_kept (check token required s) = manager.check-keeps mem sound token required s
-  change_kept (revoke token time listed) = revocation.revoke-keeps mem sound token time listed
-  change_kept (revoke_capability token time listed) = revocation.revoke-capability-keeps mem sound token time listed
-  change_kept (revoke_held s token time listed) = revocation.revoke-held-keeps mem sound s token time listed
-  change_kept (revoke_batch tokens time listed) = revocation.revoke-batch-keeps mem sound tokens time listed
-  change_kept (notify_process pid id reason time) = revocation.notify-keeps mem sound pid id reason time
-  change_kept (drain_notifications pid area) = revocation.drain-keeps mem sound pid area
-  change_kept (cleanup_process_notifications pid) = revocation.cleanup-keeps mem sound pid
+  change_kept (delete token) = manager.delete_keeps mem sound token
+  change_kept (check token required s) = manager.check_keeps mem sound token required s
+  change_kept (revoke token time listed) = revocation.revoke_keeps mem sound token time listed
+  change_kept (revoke_capability token time listed) = revocation.revoke_capability_keeps mem sound token time listed
+  change_kept (revoke_held s token time listed) = revocation.revoke_held_keeps mem sound s token time listed
+  change_kept (revoke_batch tokens time listed) = revocation.revoke_batch_keeps mem sound tokens time listed
+  change_kept (notify_process pid id reason time) = revocation.notify_keeps mem sound pid id reason time
+  change_kept (drain_notifications pid area) = revocation.drain_keeps mem sound pid area
+  change_kept (cleanup_process_notifications pid) = revocation.cleanup_keeps mem sound pid
 
   -- Every call that does not open the memory anew.
   pub perform_kept : (call : Call) → reopens call mem ≡ false → Kept (numbers_of mem) mem (perform call mem).memory

@@ -81,32 +81,32 @@ module _ (mem : List ℕ) (sound : Sound mem) (s : ℕ) (inside : s < (numbers_o
   accept_pays :
       (call : Accepting) → Pays d s mem (accept call mem).memory (moved_in (accepts call) s mem) (accepted_in (accepts call) s mem)
   unfolding accept moved_in accepted_in
-  accept_pays (space_insert t token object rights fits) = space_call.insert-call-pays mem sound s inside t token object rights fits
-  accept_pays (space_copy target source) = space_call.copy-call-pays mem sound s inside target source
-  accept_pays (space_create t rights object fits) = space_call.create-call-pays mem sound s inside t rights object fits
+  accept_pays (space_insert t token object rights fits) = space_call.insert_call_pays mem sound s inside t token object rights fits
+  accept_pays (space_copy target source) = space_call.copy_call_pays mem sound s inside target source
+  accept_pays (space_create t rights object fits) = space_call.create_call_pays mem sound s inside t rights object fits
   accept_pays (create t object valid cap_type rights fits) = create_pays mem sound s inside t object valid cap_type rights fits
   accept_pays (delegate token source target rights fits) = delegate_pays mem s inside token source target rights fits
 
   change_calm : (call : Changing) → Quiet d s mem (change call mem).memory
   unfolding change
-  change_calm (space_lookup t token) = space_call.lookup-calm mem sound s inside t token
-  change_calm (space_lookup_entry t token) = space_call.lookup-entry-calm mem sound s inside t token
-  change_calm (space_check_rights t token required) = space_call.check-rights-calm mem sound s inside t token required
-  change_calm (space_remove t token) = space_call.remove-calm mem sound s inside t token
-  change_calm (space_increment_generation t) = space_call.increment-calm mem sound s inside t
-  change_calm (space_clear t) = space_call.clear-calm mem sound s inside t
-  change_calm (space_revoke_all t) = space_call.revoke-all-calm mem sound s inside t
-  change_calm (space_revoke t id) = space_call.revoke-calm mem sound s inside t id
-  change_calm alloc_cap_id = space_call.alloc-calm mem sound s inside
+  change_calm (space_lookup t token) = space_call.lookup_calm mem sound s inside t token
+  change_calm (space_lookup_entry t token) = space_call.lookup_entry_calm mem sound s inside t token
+  change_calm (space_check_rights t token required) = space_call.check_rights_calm mem sound s inside t token required
+  change_calm (space_remove t token) = space_call.remove_calm mem sound s inside t token
+  change_calm (space_increment_generation t) = space_call.increment_calm mem sound s inside t
+  change_calm (space_clear t) = space_call.clear_calm mem sound s inside t
+  change_calm (space_revoke_all t) = space_call.revoke_all_calm mem sound s inside t
+  change_calm (space_revoke t id) = space_call.revoke_calm mem sound s inside t id
+  change_calm alloc_cap_id = space_call.alloc_calm mem sound s inside
   change_calm (delete token) = delete_calm token
   change_calm (check token required t) = check_calm token required t
-  change_calm (revoke token time listed) = revocation.revoke-steady mem sound InSpace steady token time listed
-  change_calm (revoke_capability token time listed) = revocation.revoke-capability-steady mem sound InSpace steady token time listed
-  change_calm (revoke_held t token time listed) = revocation.held-revoke-steady mem sound InSpace steady t token time listed
-  change_calm (revoke_batch tokens time listed) = revocation.batch-steady mem sound InSpace steady tokens time listed
-  change_calm (notify_process pid id reason time) = revocation.notify-steady mem sound InSpace steady pid id reason time
-  change_calm (drain_notifications pid area) = revocation.drain-steady mem sound InSpace steady pid area
-  change_calm (cleanup_process_notifications pid) = revocation.cleanup-steady mem sound InSpace steady pid
+  change_calm (revoke token time listed) = revocation.revoke_steady mem sound InSpace steady token time listed
+  change_calm (revoke_capability token time listed) = revocation.revoke_capability_steady mem sound InSpace steady token time listed
+  change_calm (revoke_held t token time listed) = revocation.held_revoke_steady mem sound InSpace steady t token time listed
+  change_calm (revoke_batch tokens time listed) = revocation.batch_steady mem sound InSpace steady tokens time listed
+  change_calm (notify_process pid id reason time) = revocation.notify_steady mem sound InSpace steady pid id reason time
+  change_calm (drain_notifications pid area) = revocation.drain_steady mem sound InSpace steady pid area
+  change_calm (cleanup_process_notifications pid) = revocation.cleanup_steady mem sound InSpace steady pid
 
   pub perform_pays :
       (call : Call) → reopens call mem ≡ false

@@ -74,8 +74,8 @@ module _ (mem : List ℕ) (sound : Sound mem) (s : ℕ) (valid : s < (numbers_of
 
   pub visits_answered : VisitsOf mem s
   unfolding
-      space_reads.lookupOut space_reads.lookupEntryOut space_reads.checkRightsOut space_reads.getEntryOut space.removeOut space.revokeOut
-      manager.checkOut revocation.revokeHeldOut looked_up got_entry
+      space_reads.lookup_out space_reads.lookup_entry_out space_reads.check_rights_out space_reads.get_entry_out space.remove_out space.revoke_out
+      manager.check_out revocation.revoke_held_out looked_up got_entry
   visits_answered = record {
     of_lookup = λ token. (
       seeking (space_of d s mem) (id_of token),
@@ -110,7 +110,7 @@ module _ (mem : List ℕ) (sound : Sound mem) (s : ℕ) (valid : s < (numbers_of
       seeking (space_of d s mem) (id_of t.0),
       (
         in_space_revoke s id t valid is,
-        ap counts (entered _ _ ∙ ap (space.revokeMade d s mem) is) ∙ found_visits (λ e. 0) (found t.0).got (found t.0).visits,
+        ap counts (entered _ _ ∙ ap (space.revoke_made d s mem) is) ∙ found_visits (λ e. 0) (found t.0).got (found t.0).visits,
       ),
     );
     of_check = λ token required. (

@@ -34,7 +34,7 @@ module _ (mem : List ℕ) (s object : ℕ) (valid : Bool) (cap_type rights : ℕ
 
   -- The space takes the new entry.
   abbrev Takes : Took → Type 0
-  Takes t = Accepts (space_of (numbers_of mem) s mem) (create.entryFor mem s object valid cap_type rights t)
+  Takes t = Accepts (space_of (numbers_of mem) s mem) (create.entry_for mem s object valid cap_type rights t)
 
   -- The stated cases by answer number.
   abbrev Case : ℕ → Type 0
@@ -66,8 +66,8 @@ module _ (mem : List ℕ) (s object : ℕ) (valid : Bool) (cap_type rights : ℕ
       go : (w : Way) → Case (number_of (answer_of (out_of w)))
       go (create.bad_world bad) = bad
       go (create.bad_space sound far) = (sound, far)
-      go (create.bad-type sound there over) = (sound, (there, over))
-      go (create.bad-object sound there fits off) = (sound, (there, (fits, off)))
+      go (create.bad_type sound there over) = (sound, (there, over))
+      go (create.bad_object sound there fits off) = (sound, (there, (fits, off)))
       go (create.exhausted a is) = (a, is)
       go (create.full t over) = (t, over)
       go (create.refused t room none) = (t, (room, none))
@@ -82,13 +82,13 @@ module _ (mem : List ℕ) (s object : ℕ) (valid : Bool) (cap_type rights : ℕ
   pub create_told_21 :
       ((create_out mem s object valid cap_type rights).reply.answer ≡ BadField)
       ↔ (Sound mem × ((s < (numbers_of mem).spaces) × (15 < cap_type)))
-  create_told_21 = (in_case BadField, λ (sound, (there, over)). answers (create.bad-type sound there over))
+  create_told_21 = (in_case BadField, λ (sound, (there, over)). answers (create.bad_type sound there over))
 
   pub create_told_5 :
       ((create_out mem s object valid cap_type rights).reply.answer ≡ InvalidObject)
       ↔ (Sound mem × ((s < (numbers_of mem).spaces) × ((cap_type ≤ 15) × (valid ≡ false))))
   create_told_5 =
-      (in_case InvalidObject, λ (sound, (there, (fits, off))). answers (create.bad-object sound there fits off))
+      (in_case InvalidObject, λ (sound, (there, (fits, off))). answers (create.bad_object sound there fits off))
 
   pub create_told_9 :
       ((create_out mem s object valid cap_type rights).reply.answer ≡ IdExhausted)

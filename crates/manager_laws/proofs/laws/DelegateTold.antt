@@ -86,7 +86,7 @@ module _ (mem : List ℕ) (token source target rights : ℕ) where
 
   -- The target takes the child's entry.
   abbrev Takes : Good → Type 0
-  Takes g = Accepts (space_of (numbers_of mem) target (from g.took)) (delegate.childEntry mem token source target rights g.took)
+  Takes g = Accepts (space_of (numbers_of mem) target (from g.took)) (delegate.child_entry mem token source target rights g.took)
 
   -- The stated cases by answer number.
   abbrev Case : ℕ → Type 0
@@ -120,8 +120,8 @@ module _ (mem : List ℕ) (token source target rights : ℕ) where
 
       go : (w : Way) → Case (number_of (answer_of (out_of w)))
       go (delegate.bad_world bad) = bad
-      go (delegate.bad-source sound far) = (sound, inl far)
-      go (delegate.bad-target sound there far) = (sound, inr far)
+      go (delegate.bad_source sound far) = (sound, inl far)
+      go (delegate.bad_target sound there far) = (sound, inr far)
       go (delegate.absent entered none) = inl (entered, none)
       go (delegate.ungranted entered e found none) = (entered, (e, (found, none)))
       go (delegate.reused g is) = inl (g, is)
@@ -139,13 +139,13 @@ module _ (mem : List ℕ) (token source target rights : ℕ) where
   pub delegate_told_20 :
       ((delegate_out mem token source target rights).reply.answer ≡ BadSpace)
       ↔ (Sound mem × (((numbers_of mem).spaces ≤ source) ⊎ ((numbers_of mem).spaces ≤ target)))
-  delegate_told_20 = (in_case BadSpace, λ (sound, far). ⊎_elim (λ far. answers (delegate.bad-source sound far)) (second sound) far)
+  delegate_told_20 = (in_case BadSpace, λ (sound, far). ⊎_elim (λ far. answers (delegate.bad_source sound far)) (second sound) far)
     where
       second : Sound mem → (numbers_of mem).spaces ≤ target → answer_of out ≡ BadSpace
       second sound far =
           by_cases (dec_lt source d.spaces)
-          (λ there. answers (delegate.bad-target sound there far))
-          (λ none. answers (delegate.bad-source sound (omega arith)))
+          (λ there. answers (delegate.bad_target sound there far))
+          (λ none. answers (delegate.bad_source sound (omega arith)))
 
   pub delegate_told_1 :
       ((delegate_out mem token source target rights).reply.answer ≡ InvalidCapability)
@@ -197,7 +197,7 @@ module _ (mem : List ℕ) (token source target rights : ℕ) where
   pub delegate_value :
       (delegate_out mem token source target rights).reply.answer ≢ Done → (delegate_out mem token source target rights).reply.value ≡ 0
   delegate_value =
-      delegate.delegate-by-ways mem token source target rights (λ (out : Left Reply). answer_of out ≢ Done → out.reply.value ≡ 0)
+      delegate.delegate_by_ways mem token source target rights (λ (out : Left Reply). answer_of out ≢ Done → out.reply.value ≡ 0)
       (λ after a some not_0. refl) (λ g held not_0. absurd (not_0 refl)) (λ g room a not_0. absurd (not_0 refl))
 
   -- The memory that a way leaves, and that of an answer by the way that its case names.
@@ -213,8 +213,8 @@ module _ (mem : List ℕ) (token source target rights : ℕ) where
   delegate_20_unchanged e =
       let (sound, far) = in_case BadSpace e in
       by_cases (dec_lt source d.spaces)
-      (λ there. leaves (delegate.bad-target sound there (⊎_elim (λ f. absurd (omega arith)) (λ f. f) far)))
-      (λ none. leaves (delegate.bad-source sound (omega arith)))
+      (λ there. leaves (delegate.bad_target sound there (⊎_elim (λ f. absurd (omega arith)) (λ f. f) far)))
+      (λ none. leaves (delegate.bad_source sound (omega arith)))
 
   -- 1 where the source does not hold the token, and 6: the lookup is counted.
   pub delegate_absent :

@@ -70,8 +70,8 @@ module _ (mem : List ℕ) (s object : ℕ) (valid : Bool) (cap_type rights : ℕ
       go : (w : Way) → NoneFreed d mem (create.out_of mem s object valid cap_type rights w).memory
       go (create.bad_world bad) = none_refl d mem
       go (create.bad_space sound far) = none_refl d mem
-      go (create.bad-type sound there over) = none_refl d mem
-      go (create.bad-object sound there fits off) = none_refl d mem
+      go (create.bad_type sound there over) = none_refl d mem
+      go (create.bad_object sound there fits off) = none_refl d mem
       go (create.exhausted a is) = take_none d mem a.sound
       go (create.full t over) =
           let sound = t.asked.sound in
@@ -85,7 +85,7 @@ module _ (mem : List ℕ) (s object : ℕ) (valid : Bool) (cap_type rights : ℕ
           none_trans d mem (take_step d mem) _ (take_none d mem t.asked.sound)
           (none_same d (take_step d mem) _
           (admitted_ids d (take_step d mem) t.id object 0 (create.recording mem s object valid cap_type rights t room) s t.asked.there
-          (create.newToken mem s object valid cap_type rights t) rights 7 fits (omega arith) (omega arith)))
+          (create.new_token mem s object valid cap_type rights t) rights 7 fits (omega arith) (omega arith)))
 
 -- ---- delegate
 
@@ -121,7 +121,7 @@ module _ (mem : List ℕ) (token source target rights : ℕ) where
       → NoneFreed (numbers_of mem) mem (delegate.base mem token source target rights g)
   base_none g =
       none_trans (numbers_of mem) mem _ _ (offer_none g)
-      (roomed_none (numbers_of mem) token _ (delegate.offer-sound mem token source target rights g))
+      (roomed_none (numbers_of mem) token _ (delegate.offer_sound mem token source target rights g))
 
   -- An id taken then was recycled before the delegate, or is new.
   module _ (t : delegate.Took mem token source target rights) where
@@ -135,7 +135,7 @@ module _ (mem : List ℕ) (token source target rights : ℕ) where
     taken = take_step numbers r
 
     r_sound : SoundAt numbers r
-    r_sound = delegate.base-sound mem token source target rights t.asked.granted
+    r_sound = delegate.base_sound mem token source target rights t.asked.granted
 
     r_none : NoneFreed numbers mem r
     r_none = base_none t.asked.granted
@@ -178,15 +178,15 @@ module _ (mem : List ℕ) (token source target rights : ℕ) where
 
         go : (w : WayOut) → NoneFreed (numbers_of mem) mem (delegate.out_of mem token source target rights w).memory
         go (delegate.bad_world bad) = as_it_is
-        go (delegate.bad-source sound far) = as_it_is
-        go (delegate.bad-target sound there far) = as_it_is
+        go (delegate.bad_source sound far) = as_it_is
+        go (delegate.bad_target sound there far) = as_it_is
         go (delegate.absent entered none) = looked_none entered
         go (delegate.ungranted entered e found none) = looked_none entered
         go (delegate.reused g held) = offer_none g
         go (delegate.crowded g none many) = base_none g
         go (delegate.exhausted a is) =
             none_trans (numbers_of mem) mem _ _ (base_none a.granted)
-            (take_none (numbers_of mem) _ (delegate.base-sound mem token source target rights a.granted))
+            (take_none (numbers_of mem) _ (delegate.base_sound mem token source target rights a.granted))
         go (delegate.orphaned t outside) = given_back_none t
         go (delegate.stale t inside is) = given_back_none t
         go (delegate.full g over) = given_back_none g.took
@@ -297,7 +297,7 @@ pub create_new :
     → (create_out mem s object valid cap_type rights).reply.answer ≡ Done
     → Unspent mem (id_of (create_out mem s object valid cap_type rights).reply.value)
 create_new mem s object valid cap_type rights =
-    create.create-by-ways mem s object valid cap_type rights
+    create.create_by_ways mem s object valid cap_type rights
     (λ (out : Left Reply). out.reply.answer ≡ Done → Unspent mem (id_of out.reply.value))
     (λ after a some e. absurd (some (ap number_of e)))
     (λ t room a e x spent.
@@ -313,7 +313,7 @@ module _ (mem : List ℕ) (token source target rights : ℕ) where
       → delegate.Returned mem token source target rights (delegate_out mem token source target rights).reply.value
       ⊎ Unspent mem (id_of (delegate_out mem token source target rights).reply.value)
   delegate_new =
-      delegate.delegate-by-ways mem token source target rights
+      delegate.delegate_by_ways mem token source target rights
       (λ (out : Left Reply).
       out.reply.answer ≡ Done
       → delegate.Returned mem token source target rights out.reply.value ⊎ Unspent mem (id_of out.reply.value))
@@ -325,7 +325,7 @@ module _ (mem : List ℕ) (token source target rights : ℕ) where
       let d : Numbers = numbers_of mem in
       let t = g.took in
       let granted = t.asked.granted in
-      let sound = delegate.base-sound mem token source target rights granted in
+      let sound = delegate.base_sound mem token source target rights granted in
       let r : List ℕ = delegate.base mem token source target rights granted in
       rw
       (id_of_made t.id (type_of token) (delegate.shared mem token source target rights granted)

@@ -47,8 +47,8 @@ module _ (mem : List ℕ) (sound : Sound mem) (s object : ℕ) (valid : Bool) (c
       go : (w : Way) → Keeps mem (create.out_of mem s object valid cap_type rights w)
       go (create.bad_world bad) = as_it_is
       go (create.bad_space good far) = as_it_is
-      go (create.bad-type good there over) = as_it_is
-      go (create.bad-object good there small off) = as_it_is
+      go (create.bad_type good there over) = as_it_is
+      go (create.bad_object good there small off) = as_it_is
       go (create.exhausted a is) = taking
       go (create.full t over) =
           kept_trans d mem _ _ taking (given_back d _ taking.sound t.id (taken_in_hand d mem sound t.id t.is))
@@ -57,7 +57,7 @@ module _ (mem : List ℕ) (sound : Sound mem) (s object : ℕ) (valid : Bool) (c
       go (create.accepted t room a) =
           kept_trans d mem _ _ taking
           (entered_kept d _ t.id object 0 (create.recording mem s object valid cap_type rights t room) s
-          (create.newToken mem s object valid cap_type rights t) rights 7 t.asked.there fits (omega arith) (omega arith))
+          (create.new_token mem s object valid cap_type rights t) rights 7 t.asked.there fits (omega arith) (omega arith))
 
 module _ (mem : List ℕ) (sound : Sound mem) (token source target rights : ℕ) (fits : rights < 2 ^ 32) where
   abbrev numbers : Numbers
@@ -96,11 +96,11 @@ module _ (mem : List ℕ) (sound : Sound mem) (token source target rights : ℕ)
 
       go : (w : delegate.Way mem token source target rights) → Keeps mem (delegate.out_of mem token source target rights w)
       go (delegate.bad_world bad) = as_it_is
-      go (delegate.bad-source good far) = as_it_is
-      go (delegate.bad-target good there far) = as_it_is
-      go (delegate.absent entered none) = delegate.looked-kept mem token source target rights entered
-      go (delegate.ungranted entered e found none) = delegate.looked-kept mem token source target rights entered
-      go (delegate.reused g held) = delegate.offer-kept mem token source target rights g
+      go (delegate.bad_source good far) = as_it_is
+      go (delegate.bad_target good there far) = as_it_is
+      go (delegate.absent entered none) = delegate.looked_kept mem token source target rights entered
+      go (delegate.ungranted entered e found none) = delegate.looked_kept mem token source target rights entered
+      go (delegate.reused g held) = delegate.offer_kept mem token source target rights g
       go (delegate.crowded g none many) = delegate.base_kept mem token source target rights g
       go (delegate.exhausted a is) =
           let base = delegate.base_kept mem token source target rights a.granted in

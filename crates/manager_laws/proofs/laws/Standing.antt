@@ -141,7 +141,7 @@ pub created_stands :
     → let out = create_out mem s object valid cap_type rights in
     Stands (numbers_of mem) s (id_of out.reply.value) (registered_of mem) 0 (new_entry out.reply.value object rights) out.memory
 created_stands mem s object valid cap_type rights fits =
-    create.create-by-ways mem s object valid cap_type rights
+    create.create_by_ways mem s object valid cap_type rights
     (λ (out : Left Reply).
     out.reply.answer ≡ Done
     → Stands d s (id_of out.reply.value) (registered_of mem) 0 (new_entry out.reply.value object rights) out.memory)
@@ -154,7 +154,7 @@ created_stands mem s object valid cap_type rights fits =
     let token : ℕ = token_of t.id cap_type rights in
     rw (id_of_made t.id cap_type rights hand.free.fits, ← count)
     (admitted_stands d taken t.id object 0 (create.recording mem s object valid cap_type rights t room) s t.asked.there token rights
-    7 fits (omega arith) (omega arith) (rw (create.recorded-space mem s object valid cap_type rights t room) a)))
+    7 fits (omega arith) (omega arith) (rw (create.recorded_space mem s object valid cap_type rights t room) a)))
   where
     d : Numbers
     d = numbers_of mem
@@ -175,7 +175,7 @@ module _ (mem : List ℕ) (token source target rights : ℕ) where
   parent t = delegate.parent mem token source target rights t
 
   abbrev child : Took → CapabilityEntry
-  child t = delegate.childEntry mem token source target rights t
+  child t = delegate.child_entry mem token source target rights t
 
   -- The value is the token of a new child of the parent, which stands.
   abbrev pub NewChild : Left Reply → Type 0
@@ -191,7 +191,7 @@ module _ (mem : List ℕ) (token source target rights : ℕ) where
       → delegate.Returned mem token source target rights (delegate_out mem token source target rights).reply.value
       ⊎ NewChild (delegate_out mem token source target rights)
   delegated_stands fits =
-      delegate.delegate-by-ways mem token source target rights
+      delegate.delegate_by_ways mem token source target rights
       (λ (out : Left Reply).
       out.reply.answer ≡ Done → delegate.Returned mem token source target rights out.reply.value ⊎ NewChild out)
       (λ after a some e. absurd (some (ap number_of e)))
@@ -216,4 +216,4 @@ module _ (mem : List ℕ) (token source target rights : ℕ) where
           (subst (λ k. Stands numbers target t.id k (suc (parent t)) (child t) after) count
           (admitted_stands numbers _ t.id (objects numbers (from t) (parent t)) (suc (parent t)) reg target granted.entered.to
           (child t).capability.0 shared 8 small (omega arith) (omega arith)
-          (rw (delegate.recorded-space mem token source target rights t g.inside g.good room) a)))
+          (rw (delegate.recorded_space mem token source target rights t g.inside g.good room) a)))

@@ -39,7 +39,7 @@ module _ (mem : List ℕ) (s object : ℕ) (valid : Bool) (cap_type rights : ℕ
   pub create_value :
       (create_out mem s object valid cap_type rights).reply.answer ≢ Done → (create_out mem s object valid cap_type rights).reply.value ≡ 0
   create_value =
-      create.create-by-ways mem s object valid cap_type rights
+      create.create_by_ways mem s object valid cap_type rights
       (λ (out : Left Reply). out.reply.answer ≢ Done → out.reply.value ≡ 0)
       (λ after a some not_0. refl) (λ t room a not_0. absurd (not_0 refl))
 
@@ -60,8 +60,8 @@ module _ (mem : List ℕ) (s object : ℕ) (valid : Bool) (cap_type rights : ℕ
       go : (w : Way) → Unchanged (create.out_of mem s object valid cap_type rights w)
       go (create.bad_world bad) = λ not_0 not_22 not_4. refl
       go (create.bad_space sound far) = λ not_0 not_22 not_4. refl
-      go (create.bad-type sound there over) = λ not_0 not_22 not_4. refl
-      go (create.bad-object sound there fits off) = λ not_0 not_22 not_4. refl
+      go (create.bad_type sound there over) = λ not_0 not_22 not_4. refl
+      go (create.bad_object sound there fits off) = λ not_0 not_22 not_4. refl
       go (create.exhausted a is) = λ not_0 not_22 not_4. none_taken d mem is
       go (create.full t over) = λ not_0 not_22 not_4. absurd (not_22 refl)
       go (create.refused t room none) = λ not_0 not_22 not_4. absurd (not_4 refl)
@@ -79,7 +79,7 @@ module _ (mem : List ℕ) (s object : ℕ) (valid : Bool) (cap_type rights : ℕ
   -- 4: the id is recycled, and nothing else differs from the memory after taking it,
   pub create_undone :
       (t : Took) (room : registered_of mem < (numbers_of mem).places)
-      (none : ¬ Accepts (space_of (numbers_of mem) s mem) (create.entryFor mem s object valid cap_type rights t))
+      (none : ¬ Accepts (space_of (numbers_of mem) s mem) (create.entry_for mem s object valid cap_type rights t))
       → Undone (numbers_of mem) (take_step (numbers_of mem) mem) t.id
       (create.out_of mem s object valid cap_type rights (create.refused t room none)).memory
   create_undone t room none =

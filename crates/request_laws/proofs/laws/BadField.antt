@@ -87,8 +87,8 @@ module _ (mem : List ℕ) (sound : Sound mem) where
     where
       go : (w : delegate.Way mem token source target rights) → Never (delegate.out_of mem token source target rights w)
       go (delegate.bad_world bad) = other _ (λ e. omega arith)
-      go (delegate.bad-source sound far) = other _ (λ e. omega arith)
-      go (delegate.bad-target sound there far) = other _ (λ e. omega arith)
+      go (delegate.bad_source sound far) = other _ (λ e. omega arith)
+      go (delegate.bad_target sound there far) = other _ (λ e. omega arith)
       go (delegate.absent entered none) = other _ (λ e. omega arith)
       go (delegate.ungranted entered e found none) = other _ (λ e. omega arith)
       go (delegate.reused g is) = other _ (λ e. omega arith)
@@ -100,52 +100,52 @@ module _ (mem : List ℕ) (sound : Sound mem) where
       go (delegate.refused g room none) = other _ (λ e. omega arith)
       go (delegate.accepted g room takes) = other _ (λ e. omega arith)
 
-  looks_up : (s token : ℕ) → Never (space_reads.lookupOut mem s token)
-  unfolding space_reads.lookupOut
+  looks_up : (s token : ℕ) → Never (space_reads.lookup_out mem s token)
+  unfolding space_reads.lookup_out
   looks_up s token =
       let l = looked_up (space_of d s mem) token in
       on_space_keeps s _ (not_found (λ e. e.rights.0) l.got l.visits)
 
-  checks : (token required s : ℕ) → Never (manager.checkOut mem token required s)
+  checks : (token required s : ℕ) → Never (manager.check_out mem token required s)
   checks token required s =
       check_by_cases mem token required s Never (λ bad. other BadWorld (λ e. omega arith)) (λ sound far. other BadSpace (λ e. omega arith))
       (λ sound there without. other InsufficientRights (λ e. omega arith))
       (λ sound there with' stale. other CapabilityRevoked (λ e. omega arith)) (λ sound there with' good. other Done (λ e. omega arith))
 
-  removes : (s token : ℕ) → Never (space.removeOut mem s token)
-  unfolding space.removeOut
+  removes : (s token : ℕ) → Never (space.remove_out mem s token)
+  unfolding space.remove_out
   removes s token =
       let l = looked_up (space_of d s mem) token in
       on_space_keeps s _ (not_found (λ e. e.object) l.got l.visits)
 
-  deletes : (token : ℕ) → Never (manager.deleteOut mem token)
+  deletes : (token : ℕ) → Never (manager.delete_out mem token)
   deletes token =
       delete_by_cases mem token Never (λ bad. other BadWorld (λ e. omega arith)) (λ sound outside. other NotFound (λ e. omega arith))
       (λ sound inside full. other RecycleFull (λ e. omega arith)) (λ sound inside room. other Done (λ e. omega arith))
 
-  revokes_held : (s token time : ℕ) → Never (revocation.revokeHeldOut mem s token time pids)
+  revokes_held : (s token time : ℕ) → Never (revocation.revoke_held_out mem s token time pids)
   revokes_held s token time =
       by_cases (dec_lt s d.spaces)
       (λ there e. omega (arith, two_pids, (held_told_21 mem sound s there token time pids).0 e))
       (λ far e. omega (arith, ap number_of (sym e ∙ (held_entered mem time pids s token).bad_space.1 (sound, omega arith))))
 
-  clears : (s : ℕ) → Never (space.clearOut mem s)
-  unfolding space.clearOut
+  clears : (s : ℕ) → Never (space.clear_out mem s)
+  unfolding space.clear_out
   clears s = on_space_keeps s _ (other Done (λ e. omega arith))
 
-  copies : (target source : ℕ) → Never (space.copyOut mem target source)
-  unfolding space.copyOut
+  copies : (target source : ℕ) → Never (space.copy_out mem target source)
+  unfolding space.copy_out
   copies target source = on_space_keeps target _ (either Never _ _ _ (other BadSpace (λ e. omega arith)) (other Done (λ e. omega arith)))
 
-  revokes_all : (s : ℕ) → Never (space.revokeAllOut mem s)
-  unfolding space.revokeAllOut
+  revokes_all : (s : ℕ) → Never (space.revoke_all_out mem s)
+  unfolding space.revoke_all_out
   revokes_all s = on_space_keeps s _ (other Done (λ e. omega arith))
 
-  inserts : (s token object rights : ℕ) → Never (space.insertCallOut mem s token object rights)
-  unfolding space.insertCallOut
+  inserts : (s token object rights : ℕ) → Never (space.insert_call_out mem s token object rights)
+  unfolding space.insert_call_out
   inserts s token object rights = on_space_keeps s _ (not_inserted (space_of d s mem) (new_entry token object rights))
 
-  creates : (s rights object : ℕ) → Never (space.createOut mem s rights object)
+  creates : (s rights object : ℕ) → Never (space.create_out mem s rights object)
   creates s rights object =
       create_by_cases mem s rights object Never (λ bad. other BadWorld (λ e. omega arith)) (λ sound far. other BadSpace (λ e. omega arith))
       (λ sound there none. other SpaceIds (λ e. omega arith)) (λ sound there id is. not_inserted _ _)
@@ -163,11 +163,11 @@ module _ (mem : List ℕ) (sound : Sound mem) where
         few_for d mem q sound,
       )
 
-  revokes_token : (token time : ℕ) → Never (revocation.revokeCapabilityOut mem token time pids)
+  revokes_token : (token time : ℕ) → Never (revocation.revoke_capability_out mem token time pids)
   revokes_token token time e = omega (arith, two_pids, (revoke_capability_told_21 mem sound token time pids).0 e)
 
   -- A space revoke is the one call of a record that reads an id.
-  revokes_exactly : (s id : ℕ) → s < d.spaces → ((space.revokeOut mem s id).reply.answer ≡ BadField) ↔ (2 ^ 48 ≤ id)
+  revokes_exactly : (s id : ℕ) → s < d.spaces → ((space.revoke_out mem s id).reply.answer ≡ BadField) ↔ (2 ^ 48 ≤ id)
   revokes_exactly s id there =
       let (told, tells) = revoke_told_21 mem s id in (λ e. (told e).1.1, λ over. tells (sound, (there, over)))
 

@@ -65,28 +65,28 @@ module _ (mem : List ℕ) (sound : Sound mem) where
         let rights : ℕ = r.rights in
         let valid : Bool = eqb r.valid 1 in
         either (Fine mem) _ _ _
-        (fine s _ (manager.create-keeps mem sound s a valid r.cap_type rights fits)
+        (fine s _ (manager.create_keeps mem sound s a valid r.cap_type rights fits)
         (create_entered mem s a valid r.cap_type rights))
         (either (Fine mem) _ _ _
-        (sure _ (manager.delegate-keeps mem sound a s r.second rights fits) (delegate_told_26 mem a s r.second rights))
-        (either (Fine mem) _ _ _ (fine s _ (space.lookup-keeps mem sound s a) (told.lookup-entered mem s a))
-        (either (Fine mem) _ _ _ (fine s _ (manager.check-keeps mem sound a rights s) (check_entered mem a rights s))
-        (fine s _ (space.remove-keeps mem sound s a) (told.remove-entered mem s a)))))
+        (sure _ (manager.delegate_keeps mem sound a s r.second rights fits) (delegate_told_26 mem a s r.second rights))
+        (either (Fine mem) _ _ _ (fine s _ (space.lookup_keeps mem sound s a) (told.lookup_entered mem s a))
+        (either (Fine mem) _ _ _ (fine s _ (manager.check_keeps mem sound a rights s) (check_entered mem a rights s))
+        (fine s _ (space.remove_keeps mem sound s a) (told.remove_entered mem s a)))))
 
     fine_6_to_10 : Fine mem (called_6_to_10 r mem)
     unfolding called_6_to_10
     fine_6_to_10 =
         let s : ℕ = r.space in
-        either (Fine mem) _ _ _ (sure _ (manager.delete-keeps mem sound r.a) (delete_entered mem r.a))
+        either (Fine mem) _ _ _ (sure _ (manager.delete_keeps mem sound r.a) (delete_entered mem r.a))
         (either (Fine mem) _ _ _
-        (fine s _ (revocation.revoke-held-keeps mem sound s r.a r.b pids) (held_entered mem r.b pids s r.a))
-        (either (Fine mem) _ _ _ (fine s _ (space.clear-keeps mem sound s) (told.clear-entered mem s))
-        (either (Fine mem) _ _ _ (sure _ (space.copy-keeps mem sound s r.second) (told.copy-entered mem s r.second).0)
-        (fine s _ (space.revoke-all-keeps mem sound s) (told.revoke-all-entered mem s)))))
+        (fine s _ (revocation.revoke_held_keeps mem sound s r.a r.b pids) (held_entered mem r.b pids s r.a))
+        (either (Fine mem) _ _ _ (fine s _ (space.clear_keeps mem sound s) (told.clear_entered mem s))
+        (either (Fine mem) _ _ _ (sure _ (space.copy_keeps mem sound s r.second) (told.copy_entered mem s r.second).0)
+        (fine s _ (space.revoke_all_keeps mem sound s) (told.revoke_all_entered mem s)))))
 
     fine_drained : Fine mem (drained r.a mem)
     unfolding drained
-    fine_drained = sure _ (revocation.drain-keeps mem sound r.a _) (drain_entered mem r.a _)
+    fine_drained = sure _ (revocation.drain_keeps mem sound r.a _) (drain_entered mem r.a _)
 
     fine_11_to_15 : Fine mem (called_11_to_15 r mem)
     unfolding called_11_to_15
@@ -94,11 +94,11 @@ module _ (mem : List ℕ) (sound : Sound mem) where
         let s : ℕ = r.space in
         let a : ℕ = r.a in
         let rights : ℕ = r.rights in
-        either (Fine mem) _ _ _ (fine s _ (space.insert-keeps mem sound s a r.b rights fits) (told.insert-entered mem s a r.b rights))
-        (either (Fine mem) _ _ _ (fine s _ (space.create-keeps mem sound s rights a fits) (told.create-entered mem s rights a))
-        (either (Fine mem) _ _ _ (fine s _ (space.revoke-keeps mem sound s a) (told.revoke-entered mem s a))
+        either (Fine mem) _ _ _ (fine s _ (space.insert_keeps mem sound s a r.b rights fits) (told.insert_entered mem s a r.b rights))
+        (either (Fine mem) _ _ _ (fine s _ (space.create_keeps mem sound s rights a fits) (told.create_entered mem s rights a))
+        (either (Fine mem) _ _ _ (fine s _ (space.revoke_keeps mem sound s a) (told.revoke_entered mem s a))
         (either (Fine mem) _ _ _ fine_drained
-        (sure _ (revocation.revoke-capability-keeps mem sound a r.b pids) (revoke_capability_entered mem r.b pids a)))))
+        (sure _ (revocation.revoke_capability_keeps mem sound a r.b pids) (revoke_capability_entered mem r.b pids a)))))
 
     pub called_sound : Fine mem (called r mem)
     unfolding called

@@ -109,7 +109,7 @@ module _ (most : ℕ) (sp : List ℕ) (s : SpaceOf most sp) (id : ℕ) where
       (token : ℕ) (x : CapabilityEntry) → (looked_up sp token).got ≡ Entry x
       → one (has_entry (removed_token sp token) id) + one (eqb id (token % 2 ^ 48)) ≡ one (has_entry sp id)
   removed_entries token x found =
-      let (h, is) = (held.got-exactly most sp s token x).0 found in
+      let (h, is) = (held.got_exactly most sp s token x).0 found in
       let its_id : id_of x ≡ token % 2 ^ 48 = ap (λ w. w % 2 ^ 48) is in
       by_cases (ℕ_discrete id (token % 2 ^ 48))
       (λ same.

@@ -15,7 +15,7 @@ use Rattle.world_look.proofs.queues_sound.Statement.{statement}
 use Rattle.world_look.proofs.queues_sound.Tie as tie
 
 module _ (d : Numbers) (mem : List ℕ) (start end : ℕ) (at : start ≡ start_of d (queue 0)) (all : end ≡ length_for d) where
-  passed : (r : Bool) → r ≡ rules.queuesTest d.queues (take (end - start) (drop start mem)) → r ≡ queues_test d mem
+  passed : (r : Bool) → r ≡ rules.queues_test d.queues (take (end - start) (drop start mem)) → r ≡ queues_test d mem
   unfolding start_of length_for
   passed r h =
       let from : start ≡ queues_at d = omega arith in
