@@ -1,5 +1,5 @@
 -- `space::change::insert` meets its contract: quota, then the id.
-use Rattle.std.proofs.Common.{◌≡◌, ℕ, ◌<◌, ◌≤◌, Bool, true, false, List, sym, ◌∙◌, rules, le-leb}
+use Rattle.std.proofs.Common.{◌≡◌, ℕ, ◌<◌, ◌≤◌, Bool, true, false, List, sym, ◌∙◌, le-leb}
 use borrow.Author.Tests.{lt-leb}
 use Rattle.answers.specs.declared.Answer.TheVariants.{Done, AlreadyExists, SpaceQuota}
 use Rattle.base.specs.Choose.{when_yes, when_no}
@@ -8,8 +8,7 @@ use Rattle.table.specs.declared.CapabilityEntry.{CapabilityEntry}
 use Rattle.space.specs.Words.{quota_of, table_of}
 use Rattle.space.specs.Lookup.{is_found, search_id}
 use Rattle.space.specs.Change.{refused, inserted_table, inserted, insert_out}
-use Rattle.space.proofs.change.insert.Statement.{statement}
-use Rattle.space.proofs.change.insert.Tie as tie
+use Rattle.space.proofs.change.insert.Goals as goal
 
 module _ (sp : List ℕ) (e : CapabilityEntry) (quota used : ℕ) (q : quota ≡ quota_of sp) (u : used ≡ (table_of sp).full) where
   over : quota ≤ used → refused sp SpaceQuota ≡ insert_out sp e
@@ -30,14 +29,13 @@ module _ (sp : List ℕ) (e : CapabilityEntry) (quota used : ℕ) (q : quota ≡
     fresh after moved not_there words moves =
         rw (words, moves) (sym (when_no _ _ _ (rw (← q, ← u) (lt-leb quota used l)) ∙ when_no _ _ _ (sym tested ∙ not_there)))
 
-returns_2 : tie.Need-returns-2
-returns_2 c =
-    let tests = c.before.before.before.before in
-    there _ _ _ _ tests.before.before.before.quota.ensures tests.before.used.ensures _ c.before.before.id.ensures _
-    c.before.holds-id.ensures tests.if1.false c.if2.true
+pub returns-then-quota-used : goal.returns-then-quota-used
+returns-then-quota-used c = search over
 
-pub insert-spec : {M : Type 1} → statement M
-insert-spec =
-    tie.close
-    (tie.spec (λ c κs. search rules) (λ c κs. search rules) (λ c. search rules) (λ c. search over) (λ c κs. search rules)
-    (λ c κs. search rules) (λ c. search rules) returns_2 (λ c κs. search rules) (λ c. search rules) (λ c. search fresh))
+pub returns-then-holds_id : goal.returns-then-holds_id
+returns-then-holds_id c =
+    there _ _ _ _ c.quota.ensures c.used.ensures _ c.id.ensures _
+    c.holds_id.ensures c.if-quota-used.false c.if-holds_id.true
+
+pub returns : goal.returns
+returns c = search fresh

@@ -1,0 +1,12 @@
+-- `space::find::exact` meets its contract: where the search of the id ended, the whole token is compared.
+use Rattle.space.proofs.CodeFind.{find_laws}
+use Rattle.space.proofs.find.exact.Goals as goal
+
+pub returns-in_default : goal.returns-in_default
+returns-in_default c = search find_laws
+
+pub whole-requires : goal.whole-requires
+whole-requires c = search find_laws
+
+pub returns : goal.returns
+returns c = search find_laws

@@ -1,0 +1,9 @@
+-- `space::find::get_entry` meets its contract: what the search of the id answers.
+use Rattle.space.proofs.CodeFind.{find_laws}
+use Rattle.space.proofs.find.get_entry.Goals as goal
+
+pub entry_of-requires : goal.entry_of-requires
+entry_of-requires c = search find_laws
+
+pub returns : goal.returns
+returns c = search find_laws

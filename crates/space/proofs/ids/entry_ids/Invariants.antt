@@ -1,0 +1,23 @@
+-- `space::ids::entry_ids` meets its contract. The invariant: the ids put so far, with those of the entries from slot i on, are the
+-- answer. The measure is the slots that are left.
+use Rattle.std.proofs.Common.{◌≡◌, ℕ, ◌-◌, ◌≤◌, List, ◌++◌, length, take, drop}
+use Rattle.table.specs.Insert.{live_entries}
+use Rattle.space.specs.Ids.{ids_of}
+use Rattle.space.specs.Words.{table_of}
+use Rattle.space.proofs.ids.entry_ids.Given as goal
+
+-- The words that the slots are read from.
+abbrev pub lent : List ℕ → List ℕ
+lent sp = take (length sp - 8) (drop 8 sp)
+
+-- The ids put so far, and those still to come.
+unfoldable pub known : List ℕ → ℕ → List ℕ → ℕ → ℕ → List ℕ
+known ids count ws slots i = take count ids ++ ids_of (live_entries ws i (slots - i))
+
+abbrev pub invariant-loop-i : goal.invariant-loop-i
+invariant-loop-i l =
+    (l.i ≤ l.slots) × (l.count ≤ l.i) × (l.slots ≡ (table_of l.sp).slots) × (length l.ids ≡ length l.initial.ids)
+    × (known l.ids l.count (lent l.sp) l.slots l.i ≡ ids_of (live_entries (lent l.sp) 0 l.slots))
+
+abbrev pub decreases-loop-i : goal.decreases-loop-i
+decreases-loop-i l = l.slots - l.i
