@@ -42,10 +42,10 @@ module _ (d : Numbers) (quotas mem : List ℕ) where
       go : (b : Bool) → record_test d quotas ≡ b → P (opening d quotas mem)
       go true is =
           by_cases (dec_lt (length mem) (length_for d))
-          (λ under. subst P (sym (opening_26 d quotas mem is under)) (short (good d quotas is) under))
-          (λ over. let fits : length_for d ≤ length mem = omega arith in subst P (sym (opening_0 d quotas mem is fits))
+          (λ under. subst P (sym (opening_26 is under)) (short (good d quotas is) under))
+          (λ over. let fits : length_for d ≤ length mem = omega arith in subst P (sym (opening_0 is fits))
           (long (good d quotas is) fits))
-      go false is = subst P (sym (opening_21 d quotas mem is)) (bad (λ ok. true≢false (sym (good_test d quotas ok) ∙ is)))
+      go false is = subst P (sym (opening_21 is)) (bad (λ ok. true≢false (sym (good_test d quotas ok) ∙ is)))
 
   pub open_told_21 : ((opening d quotas mem).answer ≡ BadField) ↔ (¬ Good d quotas)
   open_told_21 =
