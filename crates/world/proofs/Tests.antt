@@ -1,9 +1,9 @@
 -- Several tests at once, as the code takes them one after the other: the first that fails decides.
-use mathlib.Core.Bool.{Bool, true, false, not}
+use mathlib.Core.Bool.{Bool, true, false}
 use mathlib.Core.Path.{◌≡◌}
 use Prim.Native.Nat.{ℕ, ◌≤◌, ◌<◌}
 use borrow.Author.Rules.{rules}
-use borrow.Author.Tests.{not-true, not-false, eq-eqb, ne_eqb, le-leb, lt-leb}
+use borrow.Author.Tests.{eq-eqb, ne_eqb, le-leb, lt-leb}
 use lib.Dec.{eqb, leb}
 use Rattle.base.specs.Choose.{both}
 

@@ -1,15 +1,15 @@
 -- Opening: 21 first (a number out of range, a quota over M, a wrong count of quotas), then 26 for a short length only. An opening
 -- writes the head, the first eight words of each space and the length of each queue; every other word stays as it was.
-use Rattle.std.specs.Prelude.{Bool, false, List, [], ◌∷◌, ◌++◌, ◌≡◌, ℕ, ◌≤◌, ◌<◌, eqb, leb, get_or, drop, set}
+use Rattle.std.specs.Prelude.{Bool, List, [], ◌∷◌, ◌++◌, ◌≡◌, ℕ, ◌≤◌, ◌<◌, eqb, leb, get_or, drop, set}
 use Rattle.std.proofs.Math.Bool.{true, not}
-use Rattle.std.proofs.Common.{ap, ◌∙◌, arith}
-use borrow.Author.Tests.{leb-true, le-leb, lt-leb, eqb-true, eq-eqb}
+use Rattle.std.proofs.Common.{arith}
+use borrow.Author.Tests.{leb-true, le-leb, eqb-true, eq-eqb}
 use Rattle.std.proofs.Math.ListN.{length}
 use Rattle.answers.specs.declared.Answer.{Answer}
 use Rattle.answers.specs.declared.Answer.TheVariants.{Done, BadField, BadWorld}
 use Rattle.base.specs.AllLaws.{all_at, all_make}
 use Rattle.base.specs.Below.{all}
-use Rattle.base.specs.Choose.{both, both_left, both_right, both_make, when, when_yes, when_no}
+use Rattle.base.specs.Choose.{both, both_left, both_right, both_make, when}
 use Rattle.world.specs.Numbers.{InRange, in_range_test, in_range, in_range_passes}
 use Rattle.world.specs.Regions.{head, space, queue, length_for, on_region, on_each}
 use Rattle.world.specs.declared.Numbers.{Numbers}

@@ -3,7 +3,6 @@ use Rattle.std.specs.Prelude.{true, List, ◌≡◌, refl, ℕ, ◌≤◌, ◌<�
 use Rattle.std.proofs.Common.{ap, ◌∙◌, arith, get_or-set_same}
 use Rattle.std.proofs.Math.ListN.{get_or}
 use Rattle.base.specs.SumLaws.{sum-zero}
-use Rattle.table.specs.Sound as table
 use Rattle.table.specs.Sound.{no_slots}
 use Rattle.space.specs.Sound.{SoundSpace}
 use Rattle.world.specs.Open.{open_head, open_space, opened, Good, record_test, good}

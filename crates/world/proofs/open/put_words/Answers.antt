@@ -1,0 +1,8 @@
+use borrow.Author.Rules.{rules}
+use Rattle.base.specs.Written.{write_laws}
+use Rattle.world.proofs.open.put_words.Goals as goal
+
+ruleset laws = (rules, write_laws)
+
+pub loop-i-init : goal.loop-i-init
+loop-i-init c = search laws

@@ -1,0 +1,14 @@
+-- The memory ends where the queues do.
+use native.Mathlib.Omega.{arith}
+use borrow.Author.Rules.{rules}
+use Rattle.world.specs.Layout.{length-le}
+use Rattle.world.specs.Regions.{start_of, length_for}
+use Rattle.world.proofs.regions.length_for.Goals as goal
+
+pub overflow_add-result : goal.overflow_add-result
+unfolding length_for start_of
+overflow_add-result c = omega (arith, length-le _ c.requires)
+
+pub returns : goal.returns
+unfolding length_for start_of
+returns c = search rules

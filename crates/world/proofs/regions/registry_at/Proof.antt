@@ -1,8 +1,0 @@
--- The sums are those of Starts.antt, in the words of the code.
-use Rattle.world.proofs.Starts.{starts}
-use Rattle.world.proofs.regions.registry_at.Statement.{statement}
-use Rattle.world.proofs.regions.registry_at.Tie as tie
-
-pub registry-at-spec : {M : Type 1} → statement M
-registry-at-spec =
-    tie.close (tie.spec (λ c κs. search starts) (λ c. search starts) (λ c. search starts) (λ c. search starts))
