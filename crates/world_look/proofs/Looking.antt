@@ -1,11 +1,10 @@
 -- The exits of the look's tests of the head, in the words of the code.
 use mathlib.Core.Bool.{true}
-use mathlib.Core.Bool.{Bool, false, not}
+use mathlib.Core.Bool.{Bool, false}
 use mathlib.Core.List.{List}
 use mathlib.Core.Path.{◌≡◌, sym, ◌∙◌}
 use Prim.Native.Nat.{ℕ, ◌≤◌, ◌<◌}
 use native.Mathlib.Omega.{arith}
-use borrow.Author.Tests.{not-false}
 use lib.Dec.{leb}
 use lib.ListN.{length}
 use Rattle.base.specs.Choose.{both}

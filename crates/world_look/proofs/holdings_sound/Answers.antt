@@ -3,7 +3,6 @@ use mathlib.Core.List.{List}
 use mathlib.Core.Path.{◌≡◌}
 use Prim.Native.Nat.{ℕ, ◌+◌, ◌*◌, ◌^◌, ◌<◌, ◌≤◌}
 use native.Mathlib.Omega.{arith}
-use borrow.Author.Rules.{rules}
 use lib.ListN.{length, replicate, length-replicate}
 use lib.Seq.{length-take-le}
 use Rattle.base.specs.Chain.{Chained, chained_none}
@@ -14,8 +13,7 @@ use Rattle.world.specs.Sound.{registered_ids}
 use Rattle.world.specs.SoundLaws.{Headed}
 use Rattle.world.specs.Views.{length_view}
 use Rattle.world.specs.declared.Numbers.{Numbers}
-use Rattle.world_look.proofs.holdings_sound.Statement.{statement}
-use Rattle.world_look.proofs.holdings_sound.Tie as tie
+use Rattle.world_look.proofs.holdings_sound.Goals as goal
 
 no_index :
     (d : Numbers) (mem : List ℕ) (buckets room : ℕ) → Headed d mem → 0 < buckets → buckets ≤ 2 ^ 32 → registered_of mem ≤ room
@@ -26,25 +24,26 @@ no_index d mem buckets room head some few fits =
     length-take-le (registered_of mem) (view d registry mem) (omega (arith, head.registered_fit)) in
     chained_none (registered_ids d mem) (replicate room 0) buckets some few (rw (length-replicate, ids) fits)
 
-shared_slice_read_if1 : tie.Need-shared-slice-read-if1
+pub bounds-mem-11 : goal.bounds-mem-11
 unfolding length_for
-shared_slice_read_if1 c = omega arith
+bounds-mem-11 c = omega arith
 
-holdings_by_requires : tie.Need-holdings-by-requires
-holdings_by_requires c κs =
-    let head = c.before.before.before.before.before.before.requires in
-    let few = c.before.before.before.if1.true in
-    (head, (no_index _ _ 2048 512 head (omega arith) (omega arith) few, (few, at_most_none 512)))
+pub holdings_by-requires-clause-chained : goal.holdings_by-requires-clause-chained
+holdings_by-requires-clause-chained c =
+    let head = c.requires in
+    let few = c.if-mem-le512.true in no_index _ _ 2048 512 head (omega arith) (omega arith) few
 
-holdings_by_requires_2 : tie.Need-holdings-by-requires-2
-holdings_by_requires_2 c κs =
-    let start = c.before.before.before.before.before.before in
-    let head = start.requires in
-    let fit : registered_of start.args.mem.now ≤ 4096 = omega (arith, head.registered_fit, head.in_range.places.1) in
-    (head, (no_index _ _ 65536 4096 head (omega arith) (omega arith) fit, (fit, at_most_none 4096)))
+pub holdings_by-requires-clause-mem_in_bounds : goal.holdings_by-requires-clause-mem_in_bounds
+holdings_by-requires-clause-mem_in_bounds c =
+    let head = c.requires in
+    let few = c.if-mem-le512.true in (few, at_most_none 512)
 
-pub holdings-sound-spec : {M : Type 1} → statement M
-holdings-sound-spec =
-    tie.close
-    (tie.spec shared_slice_read_if1 (λ c. search rules) (λ c. search rules) (λ c. search rules) holdings_by_requires (λ c. search rules)
-    (λ c. search rules) (λ c. search rules) (λ c. search rules) holdings_by_requires_2 (λ c. search rules))
+pub holdings_by-requires-2-clause-chained : goal.holdings_by-requires-2-clause-chained
+holdings_by-requires-2-clause-chained c =
+    let head = c.requires in
+    let fit : registered_of c.args.mem.now ≤ 4096 = omega (arith, head.registered_fit, head.in_range.places.1) in no_index _ _ 65536 4096 head (omega arith) (omega arith) fit
+
+pub holdings_by-requires-2-clause-mem_in_bounds : goal.holdings_by-requires-2-clause-mem_in_bounds
+holdings_by-requires-2-clause-mem_in_bounds c =
+    let head = c.requires in
+    let fit : registered_of c.args.mem.now ≤ 4096 = omega (arith, head.registered_fit, head.in_range.places.1) in (fit, at_most_none 4096)

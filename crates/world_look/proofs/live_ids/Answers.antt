@@ -1,7 +1,6 @@
--- The ids of the live ones among the first i slots are written, and n is how many they are.
 use mathlib.Core.List.{List}
 use mathlib.Core.Path.{◌≡◌}
-use Prim.Native.Nat.{ℕ, ◌+◌, ◌-◌, ◌≤◌, ◌<◌}
+use Prim.Native.Nat.{ℕ, ◌+◌, ◌≤◌, ◌<◌}
 use borrow.Author.Rules.{rules}
 use lib.ListN.{set}
 use Rattle.base.specs.Below.{one}
@@ -9,8 +8,7 @@ use Rattle.base.specs.Compacted.{Compacting, compact_starts, compact_goes, compa
 use Rattle.table.specs.Slots.{is_live, id_at, id_of, entry_at}
 use Rattle.table.specs.declared.CapabilityEntry.{CapabilityEntry}
 use Rattle.world_look.specs.Look.{live_below, live_ids}
-use Rattle.world_look.proofs.live_ids.Statement.{statement}
-use Rattle.world_look.proofs.live_ids.Tie as tie
+use Rattle.world_look.proofs.live_ids.Goals as goal
 
 module _ (ws : List ℕ) (slots : ℕ) (xs₀ xs : List ℕ) (n i : ℕ) (writing : Compacting (id_at ws) (is_live ws) slots xs₀ xs n i) where
   goes :
@@ -26,16 +24,13 @@ module _ (ws : List ℕ) (slots : ℕ) (xs₀ xs : List ℕ) (n i : ℕ) (writin
   unfolding live_ids
   ends u = (compact_ends (id_at ws) (is_live ws) slots xs₀ xs n i writing u).written
 
-abbrev invariant-loop : tie.invariant-loop
-invariant-loop words slots ids₀ n₀ i₀ ids n i = Compacting (id_at words) (is_live words) slots ids₀ ids n i
-
-abbrev decreases-loop : tie.decreases-loop
-decreases-loop words slots ids₀ n₀ i₀ ids n i = slots - i
-
 ruleset laws = (rules, compact_starts, goes, count, ends)
 
-pub live-ids-spec : {M : Type 1} → statement M
-live-ids-spec =
-    tie.close
-    (tie.spec invariant-loop decreases-loop (λ c. search laws) (λ c κs. search laws) (λ c κs. search laws) (λ c. search laws) (λ c. search laws)
-    (λ c κs. search laws) (λ c. search laws) (λ c. search laws) (λ c. search laws) (λ c. search laws) (λ c. search laws))
+pub loop-i-init : goal.loop-i-init
+loop-i-init c = search laws
+
+pub loop-i-preserved : goal.loop-i-preserved
+loop-i-preserved c = search laws
+
+pub returns-clause-ids_after : goal.returns-clause-ids_after
+returns-clause-ids_after c = search laws

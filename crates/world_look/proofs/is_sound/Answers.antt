@@ -4,7 +4,6 @@ use mathlib.Core.List.{List}
 use mathlib.Core.Path.{◌≡◌, sym, ◌∙◌}
 use Prim.Native.Nat.{ℕ, ◌<◌}
 use native.Mathlib.Omega.{arith}
-use borrow.Author.Rules.{rules}
 use borrow.Author.Tests.{not-false, lt-leb}
 use lib.ListN.{length}
 use Rattle.base.specs.Choose.{both, both_false}
@@ -14,8 +13,7 @@ use Rattle.world.specs.Sound.{head_test, holdings_test, logged_test, queues_test
 use Rattle.world.specs.SoundLaws.{Headed, head_exactly}
 use Rattle.world.specs.declared.Numbers.{Numbers}
 use Rattle.world.proofs.Tests.{tests}
-use Rattle.world_look.proofs.is_sound.Statement.{statement}
-use Rattle.world_look.proofs.is_sound.Tie as tie
+use Rattle.world_look.proofs.is_sound.Goals as goal
 
 no_head : (mem : List ℕ) → length mem < 16 → false ≡ sound_test mem
 unfolding sound_test head_test length_for
@@ -33,8 +31,26 @@ at_numbers d mem x e h = h ∙ rw e
 
 ruleset laws = (tests, headed, at_numbers)
 
-pub is-sound-spec : {M : Type 1} → statement M
-is-sound-spec =
-    tie.close
-    (tie.spec (λ c. search no_head) (λ c κs. search rules) (λ c κs. search rules) (λ c. search laws) (λ c κs. search laws)
-    (λ c. search laws) (λ c κs. search laws) (λ c. search laws) (λ c κs. search laws) (λ c. search laws depth 12))
+pub returns-then-mem-lt16 : goal.returns-then-mem-lt16
+returns-then-mem-lt16 c = search no_head
+
+pub returns-then-not-head_sound : goal.returns-then-not-head_sound
+returns-then-not-head_sound c = search laws
+
+pub holdings_sound-requires : goal.holdings_sound-requires
+holdings_sound-requires c = search laws
+
+pub returns-then-not-holdings_sound : goal.returns-then-not-holdings_sound
+returns-then-not-holdings_sound c = search laws
+
+pub log_sound-requires : goal.log_sound-requires
+log_sound-requires c = search laws
+
+pub returns-then-not-log_sound : goal.returns-then-not-log_sound
+returns-then-not-log_sound c = search laws
+
+pub queues_sound-requires : goal.queues_sound-requires
+queues_sound-requires c = search laws
+
+pub returns : goal.returns
+returns c = search laws depth 12

@@ -4,15 +4,13 @@ use mathlib.Core.List.{List}
 use mathlib.Core.Path.{◌≡◌, ◌∙◌}
 use Prim.Native.Nat.{ℕ, ◌-◌, ◌*◌}
 use native.Mathlib.Omega.{arith}
-use borrow.Author.Rules.{rules}
 use lib.ListN.{take, drop, length-take, length-drop}
 use Rattle.revocation.specs.Sound as rules
 use Rattle.world.specs.Lent.{queues_passed}
 use Rattle.world.specs.Regions.{queue, queues_at, length_for, start_of}
 use Rattle.world.specs.Sound.{queues_test}
 use Rattle.world.specs.declared.Numbers.{Numbers}
-use Rattle.world_look.proofs.queues_sound.Statement.{statement}
-use Rattle.world_look.proofs.queues_sound.Tie as tie
+use Rattle.world_look.proofs.queues_sound.Goals as goal
 
 module _ (d : Numbers) (mem : List ℕ) (start end : ℕ) (at : start ≡ start_of d (queue 0)) (all : end ≡ length_for d) where
   passed : (r : Bool) → r ≡ rules.queues_test d.queues (take (end - start) (drop start mem)) → r ≡ queues_test d mem
@@ -22,12 +20,9 @@ module _ (d : Numbers) (mem : List ℕ) (start end : ℕ) (at : start ≡ start_
       let words : length_for d - queues_at d ≡ d.queues * 771 = omega arith in
       h ∙ rw (all, from, words, queues_passed)
 
-queues_sound_requires : tie.Need-queues-sound-requires
+pub queues_sound-requires : goal.queues_sound-requires
 unfolding start_of length_for
-queues_sound_requires c κs = simp (length-take, length-drop) (omega arith)
+queues_sound-requires c = simp (length-take, length-drop) (omega arith)
 
-pub queues-sound-spec : {M : Type 1} → statement M
-queues-sound-spec =
-    tie.close
-    (tie.spec (λ c κs. search rules) (λ c κs. search rules) (λ c. search rules) (λ c. search rules) (λ c. search rules) (λ c. search rules)
-    queues_sound_requires (λ c. search passed))
+pub returns : goal.returns
+returns c = search passed
