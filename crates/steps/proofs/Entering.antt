@@ -1,6 +1,5 @@
 -- How a call enters: by what the code sees (`entered_space`), every call's definition is either its refusal or goes on with the numbers.
 use Rattle.std.proofs.Common.{◌≡◌, ℕ, ◌<◌, ◌≤◌, Bool, true, false, not, ltb, List, length, sym, refl, ap, ◌∙◌, arith, rules, ltb-true, le-ltb, lt-ltb}
-use borrow.Author.Tests.{not-false}
 use Rattle.answers.specs.declared.Answer.{Answer}
 use Rattle.answers.specs.declared.Answer.TheVariants.{BadSpace, BadWorld}
 use Rattle.base.specs.Choose.{when, when_yes, when_no}
