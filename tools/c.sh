@@ -2,7 +2,7 @@
 # with the few lines of the C library's headers that the programs here need; it links for x86-64 alone.
 
 machine=$(uname -m)
-kit=$(dirname "$(dirname "$(rt doc)")")/on/$machine/toolchain
+toolchain=$(dirname "$(rt doc)")/toolchain
 c_way=cc
 if [ "${CC:-}" = kit ] || ! cc --version >/dev/null 2>&1; then c_way=kit; fi
 
@@ -21,7 +21,7 @@ cxx_compile() {
 
 kit_compile() {
     kit_headers
-    "$kit/bin/clang" --no-default-config --target="$machine-unknown-linux-gnu" -nostdinc -isystem "$root/target/c/include" "$@"
+    "$toolchain/bin/clang" --no-default-config --target="$machine-unknown-linux-gnu" -nostdinc -isystem "$root/target/c/include" "$@"
 }
 
 # The names that the header, its test and the example take from the C library.
@@ -38,9 +38,9 @@ kit_headers() {
 
 # Links objects and archives to a program.
 c_link() { # OUT FILE...
-    local out=$1 lib=$kit/lib
+    local out=$1 lib=$toolchain/lib
     shift
     if [ $c_way = cc ]; then cc -o "$out" "$@"; return; fi
-    "$kit/bin/ld.lld" -pie -dynamic-linker /lib64/ld-linux-x86-64.so.2 -o "$out" "$lib/Scrt1.o" "$lib/crti.o" "$lib/crtbeginS.o" "$@" \
+    "$toolchain/bin/ld.lld" -pie -dynamic-linker /lib64/ld-linux-x86-64.so.2 -o "$out" "$lib/Scrt1.o" "$lib/crti.o" "$lib/crtbeginS.o" "$@" \
         "$lib/libc.so.6" "$lib/libc_nonshared.a" "$lib/libgcc.a" "$lib/crtendS.o" "$lib/crtn.o"
 }

@@ -1,5 +1,5 @@
-# Reads src/*.rt of `host_tokens`, `host_spaces` and `host` and prints what a program that links the archive declares, one declaration a
-# line.
+# Reads src/*.rt of `host_replies`, `host_tokens`, `host_spaces` and `host` and prints what a program that links the archive declares, one
+# declaration a line.
 # form=c: the structs and functions as include/stonespry.h has them. form=rust: the functions as an extern block has them.
 # form=layout: C lines that compile only where each struct has the size and the offsets that repr(C) gives it.
 # A result of more than 16 bytes is a first parameter `out` (tools/native says why), a slice a pointer and a length.
