@@ -53,7 +53,8 @@ chained_more xs heads prevs j b chained l e inside =
           (by_cases (ℕ_discrete b' b)
           (λ same.
           rw same
-          (get_or-set_same heads b (suc j) 0 inside ∙ sym (last_here (in_bucket xs n b) j (eq-eqb (bucket_of n (get_or xs j 0)) b (sym e)))))
+          (get_or-set_same heads b (suc j) 0 inside
+          ∙ sym (last_here (in_bucket xs n b) j (eq-eqb (bucket_of n (get_or xs j 0)) b (sym e)))))
           (λ other.
           get_or-set_other heads b b' (suc j) 0 other ∙ chained.head b' (rw length-set at l)
           ∙ sym (last_past (in_bucket xs n b') j (ne_eqb (bucket_of n (get_or xs j 0)) b' (λ q. other (sym (e ∙ q)))))));

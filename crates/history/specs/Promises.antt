@@ -45,7 +45,8 @@ reopened (call ∷ later) mem = pick (reopens call mem) true (reopened later (pe
 -- From an opening on, through any calls, no call but a new opening is given 26.
 abbrev pub NeverBadWorld : Type 0
 NeverBadWorld =
-    (d : Numbers) (quotas mem : List ℕ) → (opening d quotas mem).answer ≡ Done → (history : List Call) (call : Call) → is_opening call ≡ false
+    (d : Numbers) (quotas mem : List ℕ) → (opening d quotas mem).answer ≡ Done → (history : List Call) (call : Call)
+    → is_opening call ≡ false
     → answer_of (perform call (after history (opening d quotas mem).memory)).reply ≢ BadWorld
 
 -- The memory is sound at every moment: the look over it is true.

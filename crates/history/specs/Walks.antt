@@ -88,7 +88,8 @@ pub data InsertsInto (sp : List ℕ) (id : ℕ) : Walk → Type 0 where
 pub data Offers (d : Numbers) (target p cap_type rights : ℕ) : ℕ → ℕ → List ℕ → Walk → Type 0 where
   this_child :
       (k m : ℕ) (mem : List ℕ) → open_child d mem p k ≡ true
-      → Offers d target p cap_type rights k (suc m) mem (seeking (space_of d target mem) (token_id (token_of (ids d mem k) cap_type rights)))
+      → Offers d target p cap_type rights k (suc m) mem
+      (seeking (space_of d target mem) (token_id (token_of (ids d mem k) cap_type rights)))
   after_a_miss :
       (k m : ℕ) (mem : List ℕ) (w : Walk) → open_child d mem p k ≡ true
       → held_with rights (looked_up (space_of d target mem) (token_of (ids d mem k) cap_type rights)).got ≡ false

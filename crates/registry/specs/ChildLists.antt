@@ -36,7 +36,8 @@ pub record ChildLists (places n : ℕ) (rg firsts nexts : List ℕ) (k : ℕ) : 
   pub firsts_inside : AtMost (length nexts) firsts
   pub nexts_inside : AtMost (length nexts) nexts
   pub first : (p : ℕ) → p < n → slice_index firsts p ≡ head_of (children_from places n rg p k)
-  pub next : (j : ℕ) → k ≤ j → j < n → (p : ℕ) → link_at places rg j ≡ suc p → slice_index nexts j ≡ head_of (children_from places n rg p (j + 1))
+  pub next : (j : ℕ) → k ≤ j → j < n → (p : ℕ) → link_at places rg j ≡ suc p
+      → slice_index nexts j ≡ head_of (children_from places n rg p (j + 1))
 
 at_most_set : (e : ℕ) (xs : List ℕ) (i v : ℕ) → AtMost e xs → i < length xs → v ≤ e → AtMost e (slice_set xs i v)
 at_most_set e xs i v few inside l = record {

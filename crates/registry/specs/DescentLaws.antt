@@ -144,7 +144,8 @@ module _ (places n : ℕ) (rg : List ℕ) (r : ℕ) (linked : Linked n (link_at 
       by_cases (dec_lt at (length found))
       (λ more.
       rw (lt-ltb at (length found) more)
-      (descends m (at + 1) (found ++ child_places places (slice_index found at) n rg) (omega arith) (descending_goes at found descending more)))
+      (descends m (at + 1) (found ++ child_places places (slice_index found at) n rg) (omega arith)
+      (descending_goes at found descending more)))
       (λ none.
       let end : at ≡ length found = omega (arith, descending.reached) in
       rw (le-ltb at (length found) (omega arith)) (rw end at descending))
@@ -166,7 +167,8 @@ module _ (places n : ℕ) (rg : List ℕ) (r : ℕ) (linked : Linked n (link_at 
     pub descent_first : (0 < length found) × (slice_index found 0 ≡ r)
     descent_first = (whole.some, whole.start)
 
-    pub descent_parents_first : (j : ℕ) → 0 < j → j < length found → (i : ℕ) × (i < j) × (link (slice_index found j) ≡ suc (slice_index found i))
+    pub descent_parents_first : (j : ℕ) → 0 < j → j < length found
+        → (i : ℕ) × (i < j) × (link (slice_index found j) ≡ suc (slice_index found i))
     descent_parents_first j later l = let (i, before, turn, named) = whole.parent j l later in (i, before, named)
 
     found_under : (m j : ℕ) → j < m → j < length found → Under link r (slice_index found j)

@@ -17,7 +17,8 @@ use Rattle.registry.specs.Rules.{RegisteredRules, RecycledRules, RegistryRules, 
 use Rattle.registry.specs.Without.{Without, past_cases, among_without}
 
 -- The rules of registered ids and of holders read the columns alone.
-module _ (places n : ℕ) (rg rg' : List ℕ) (fit : n ≤ places) (columns : (i : ℕ) → i < 4 * places → slice_index rg' i ≡ slice_index rg i) where
+module _ (places n : ℕ) (rg rg' : List ℕ) (fit : n ≤ places) (columns : (i : ℕ) → i < 4 * places
+    → slice_index rg' i ≡ slice_index rg i) where
   columns_registered : (next : ℕ) → RegisteredRules places n next rg → RegisteredRules places n next rg'
   columns_registered next =
       registered_same places n next rg rg'

@@ -62,11 +62,13 @@ marked_both k ks j s s' s'' one rest =
 pub marked_only : (places : ℕ) (ks rg : List ℕ) → AllBelow places ks → 5 * places + 1 ≤ length rg
     → OnlyMarked places ks rg (marked places ks rg)
 unfolding marked
-marked_only places [] rg inside long = states_only_none places (ByAt marked_state (In [])) (λ k s. inr (λ (j, (l, e)). omega arith, refl)) rg
+marked_only places [] rg inside long = states_only_none places (ByAt marked_state (In [])) (λ k s. inr (λ (j, (l, e)). omega arith, refl))
+    rg
 marked_only places (k ∷ ks) rg inside long =
     let rg₁ : List ℕ = set rg (2 * places + k) (marked_state (state_at places rg k)) in
     let one = states_only_one places marked_state k rg (all_below_first places k ks inside) long in
-    states_only_then places (ByAt marked_state (λ j. j ≡ k)) (ByAt marked_state (In ks)) (ByAt marked_state (In (k ∷ ks))) (marked_both k ks)
+    states_only_then places (ByAt marked_state (λ j. j ≡ k)) (ByAt marked_state (In ks)) (ByAt marked_state (In (k ∷ ks)))
+    (marked_both k ks)
     rg rg₁ (marked places ks rg₁) one (marked_only places ks rg₁ (all_below_later places k ks inside) (omega (arith, one.same_length)))
 
 module _ (places : ℕ) (ks rg rg' : List ℕ) (only : OnlyMarked places ks rg rg') (k : ℕ) where
@@ -137,7 +139,8 @@ marked_later places rg₀ (k ∷ ks) rg later inside long =
     go true e as_it_is once_marked = once_marked
     go false e as_it_is once_marked =
         let some : revoked (state_at places rg₀ k) ≢ 0 = eqb-false (revoked (state_at places rg₀ k)) 0 e in
-        let kept : marked_state (state_at places rg k) ≡ state_at places rg k = marked_again (state_at places rg k) (later k (omega arith)) in
+        let kept : marked_state (state_at places rg k) ≡ state_at places rg k =
+        marked_again (state_at places rg k) (later k (omega arith)) in
         let same : rg₁ ≡ rg = ap (set rg (2 * places + k)) kept ∙ set-get_or rg (2 * places + k) 0 in
         as_it_is ∙ ap (marked places ks) (sym same)
 
@@ -161,7 +164,8 @@ module _ (places n : ℕ) (rg : List ℕ) (r : ℕ) (inside : r < n) (fit : n �
     descent_marked_only = marked_only places ks rg (all_below_more n places ks fit (descent_below places n rg r linked inside)) long
 
     pub descent_marked_revoked :
-        (k : ℕ) → (revoked (state_at places gone k) ≡ 1) ↔ ((revoked (state_at places rg k) ≡ 1) ⊎ ((k < n) × Under (link_at places rg) r k))
+        (k : ℕ) → (revoked (state_at places gone k) ≡ 1)
+        ↔ ((revoked (state_at places rg k) ≡ 1) ⊎ ((k < n) × Under (link_at places rg) r k))
     descent_marked_revoked k =
         let marks = only_marked_revoked places ks rg gone descent_marked_only k in
         let exactly = descent_exactly places n rg r linked inside k in (

@@ -111,7 +111,8 @@ module _ (places n id object link : ℕ) (rg : List ℕ) (fit : n < places) (lon
       let state_link : 2 * places + n ≢ 3 * places + n = omega arith in
       record {
         new_id = rw (get_or-set_other, get_or-set_other, get_or-set_other) (get_or-set_same rg n id 0 (omega arith));
-        new_object = rw (get_or-set_other, get_or-set_other) (get_or-set_same (slice_set rg n id) (places + n) object 0 (rw length-set (omega arith)));
+        new_object = rw (get_or-set_other, get_or-set_other)
+            (get_or-set_same (slice_set rg n id) (places + n) object 0 (rw length-set (omega arith)));
         new_state = rw get_or-set_other (get_or-set_same (slice_set (slice_set rg n id) (places + n) object) (2 * places + n) 0 0
             (simp length-set (omega arith)));
         new_link =
@@ -120,7 +121,8 @@ module _ (places n id object link : ℕ) (rg : List ℕ) (fit : n < places) (lon
       }
 
   -- A child of the new registry is one of the old, or the new place.
-  child_cases : (k p : ℕ) → k < n + 1 → link_at places new k ≡ suc p → ((k < n) × (link_at places rg k ≡ suc p)) ⊎ ((k ≡ n) × (link ≡ suc p))
+  child_cases : (k p : ℕ) → k < n + 1 → link_at places new k ≡ suc p
+      → ((k < n) × (link_at places rg k ≡ suc p)) ⊎ ((k ≡ n) × (link ≡ suc p))
   child_cases k p l e =
       by_cases (dec_lt k n)
       (λ u. inl (u, sym (registered_other.links k u) ∙ e))

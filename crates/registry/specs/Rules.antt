@@ -114,7 +114,8 @@ module _ (places n next : ℕ) (rg rg' : List ℕ) (ids : Same n (id_at rg) (id_
       (cascaded_same n link link' links state state' rules.linked flags rules.cascaded) rules
 
   pub recycled_same :
-      (m : ℕ) → Same m (recycled_at places rg) (recycled_at places rg') → RecycledRules places n m next rg → RecycledRules places n m next rg'
+      (m : ℕ) → Same m (recycled_at places rg) (recycled_at places rg') → RecycledRules places n m next rg
+      → RecycledRules places n m next rg'
   recycled_same m again rules =
       let recycled : ℕ → ℕ = recycled_at places rg in
       let recycled' : ℕ → ℕ = recycled_at places rg' in

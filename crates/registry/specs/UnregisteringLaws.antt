@@ -95,7 +95,8 @@ closed b k n xs inside fits = record {
   same_length = length-shifted_down (b + k) (b + n) xs (omega arith) fits;
   without = λ j l.
       ⊎_elim
-      (λ (low, e). shifted_down_before (b + k) (b + n) xs (omega arith) fits (b + j) (omega arith) ∙ ap (λ i. slice_index xs (b + i)) (sym e))
+      (λ (low, e). shifted_down_before (b + k) (b + n) xs (omega arith) fits (b + j) (omega arith)
+      ∙ ap (λ i. slice_index xs (b + i)) (sym e))
       (λ (high, e).
       shifted_down_in (b + k) (b + n) xs (omega arith) fits (b + j) (omega arith) (omega arith) ∙ ap (λ i. slice_index xs i) (omega arith))
       (past_cases k j);

@@ -98,7 +98,8 @@ module _ (n : ℕ) (pairs lg : List ℕ) (fits : n + length pairs ≤ length lg)
         h),
   )
 
-  pub pairs_appended : Pairs n (pair_at lg) → Pairs (length pairs) (pair_at pairs) → Pairs (n + length pairs) (pair_at (appended n pairs lg))
+  pub pairs_appended : Pairs n (pair_at lg) → Pairs (length pairs) (pair_at pairs)
+      → Pairs (n + length pairs) (pair_at (appended n pairs lg))
   pairs_appended coded new k l =
       ⊎_elim
       (λ u. rw (appended_before k u) (coded k u))

@@ -112,7 +112,8 @@ module _ (id time reason : ℕ) (qu : List ℕ) (long : 771 ≤ length qu) (code
   module _ (room : length_of qu < 256) where
     behind : Joined qu (pushed id time reason qu) (notice id time reason) (ring_at qu (length_of qu)) 2 (length_of qu + 1)
     unfolding pushed
-    behind = rw (lt-ltb (length_of qu) 256 room) (joins id time reason qu (ring_at qu (length_of qu)) 2 (length_of qu + 1) long (omega arith)
+    behind = rw (lt-ltb (length_of qu) 256 room)
+        (joins id time reason qu (ring_at qu (length_of qu)) 2 (length_of qu + 1) long (omega arith)
         (omega arith))
 
     first_stays : first_of (pushed id time reason qu) ≡ first_of qu

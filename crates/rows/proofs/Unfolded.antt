@@ -59,7 +59,8 @@ unfolding exactly looked_up counted with_counts with_table inserted insert_out s
 space = tt
 
 unfoldable pub registry : Unit {0}
-unfolding children place_of held registered list_given child_places_from child_places ids_at descended_from descent unrevoked_of marked registry_test
+unfolding children place_of held registered list_given child_places_from child_places ids_at descended_from descent unrevoked_of marked
+    registry_test
 registry = tt
 
 unfoldable pub revocation : Unit {0}

@@ -22,7 +22,8 @@ unfolding search steps_to_stop walk home_of first first_from
 find id t = search t.words t.counts.slots id
 
 insert : ℕ → Table → Table
-unfolding insert_new placed made_room crowded room_for next_power rebuilt place_all emptied live_entries entry_at put_entry free_for steps_to_free walk
+unfolding insert_new placed made_room crowded room_for next_power rebuilt place_all emptied live_entries entry_at put_entry free_for
+    steps_to_free walk
     home_of first first_from
 insert id t =
     insert_new t.words t.counts (record { capability = record { 0 = id }; object = 0; rights = record { 0 = 0 }; uses = 0 })

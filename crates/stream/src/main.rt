@@ -5,6 +5,7 @@ use request_run::{ROOM, run_alone};
 
 // The numbers that the system gives the two streams of a program.
 const STDIN_FILENO: i32 = 0;
+
 const STDOUT_FILENO: i32 = 1;
 
 // Room for 2,048 records and the first byte of one more, and for all lines.

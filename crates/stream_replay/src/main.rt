@@ -6,6 +6,7 @@
 
 // The numbers that the system gives the two streams of a program.
 const STDIN_FILENO: i32 = 0;
+
 const STDOUT_FILENO: i32 = 1;
 
 #[derive(Clone, Copy)]

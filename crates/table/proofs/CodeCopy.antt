@@ -160,7 +160,8 @@ module _ (scratch : List ℕ) (count : ℕ) where
   pub copy_starts : (t : Table) → insert_all (scratch_entries scratch 0 (count - 0)) t ≡ insert_all (scratch_entries scratch 0 count) t
   copy_starts t = ap (λ n. insert_all (scratch_entries scratch 0 n) t) (sub-zero count)
 
-  pub copy_goes : (i : ℕ) (e : CapabilityEntry) (t u whole : Table) → insert_all (scratch_entries scratch i (count - i)) t ≡ whole → i < count
+  pub copy_goes : (i : ℕ) (e : CapabilityEntry) (t u whole : Table) → insert_all (scratch_entries scratch i (count - i)) t ≡ whole
+      → i < count
       → e ≡ entry_at scratch i → u ≡ insert_all (e ∷ []) t → insert_all (scratch_entries scratch (i + 1) (count - (i + 1))) u ≡ whole
   unfolding scratch_entries insert_all
   copy_goes i e t u whole left l is next =

@@ -55,7 +55,8 @@ place_starts scratch ws slots count = ap (λ n. place_all (scratch_entries scrat
 
 pub place_goes : (scratch ws after whole : List ℕ) (slots count i j id : ℕ) (e : CapabilityEntry)
     → place_all (scratch_entries scratch i (count - i)) ws slots ≡ whole → i < count → e ≡ entry_at scratch i → id ≡ id_of e
-    → j ≡ free_for ws slots id → after ≡ put_entry ws j e → place_all (scratch_entries scratch (i + 1) (count - (i + 1))) after slots ≡ whole
+    → j ≡ free_for ws slots id → after ≡ put_entry ws j e
+    → place_all (scratch_entries scratch (i + 1) (count - (i + 1))) after slots ≡ whole
 unfolding scratch_entries place_all
 place_goes scratch ws after whole slots count i j id e h l r s t u =
     let more : count - i ≡ suc (count - suc i) = omega arith in

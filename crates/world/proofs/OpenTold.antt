@@ -18,7 +18,8 @@ module _ (d : Numbers) (quotas mem : List ℕ) where
   unfolding opening
   opening_21 h = when_yes (not (record_test d quotas)) _ _ (ap not h)
 
-  pub opening_26 : record_test d quotas ≡ true → length mem < length_for d → opening d quotas mem ≡ record { answer = BadWorld; memory = mem }
+  pub opening_26 : record_test d quotas ≡ true → length mem < length_for d
+      → opening d quotas mem ≡ record { answer = BadWorld; memory = mem }
   unfolding opening
   opening_26 h l =
       when_no (not (record_test d quotas)) _ _ (ap not h)

@@ -142,14 +142,16 @@ one_alone p (suc n) alone = go (p n) refl (one_alone p n (λ i j l u. alone i j 
     go true here before = rw both_false (omega (arith, sum_const_zero (λ i. one (p i)) n (none here)))
     go false _ before = rw (both_true, add-zero) before
 
-one_entry : (most : ℕ) (sp : List ℕ) (id : ℕ) → SoundSpace most sp → entries_in (slot_words sp) (table_of sp).slots id ≡ one (has_entry sp id)
+one_entry : (most : ℕ) (sp : List ℕ) (id : ℕ) → SoundSpace most sp
+    → entries_in (slot_words sp) (table_of sp).slots id ≡ one (has_entry sp id)
 unfolding has_entry
 one_entry most sp id sound =
     let ws = slot_words sp in
     one_alone (entry_of ws id) (table_of sp).slots
     (λ i j l u p q.
     let same : id_at ws i ≡ id_at ws j =
-    eqb-true _ _ (both_right (is_live ws i) (eqb (id_at ws i) id) p) ∙ sym (eqb-true _ _ (both_right (is_live ws j) (eqb (id_at ws j) id) q)) in
+    eqb-true _ _ (both_right (is_live ws i) (eqb (id_at ws i) id) p)
+    ∙ sym (eqb-true _ _ (both_right (is_live ws j) (eqb (id_at ws j) id) q)) in
     sound.table.differ i j l u (both_left (is_live ws i) (eqb (id_at ws i) id) p) (both_left (is_live ws j) (eqb (id_at ws j) id) q) same)
 
 -- So a sound space counts once for each id that it has an entry of.

@@ -79,7 +79,8 @@ module _ (d : Numbers) (s : ℕ) (inside : s < d.spaces) where
         roomed_by_cases d token mem (Along d s mem) (λ few. along_refl)
         (λ many.
         let there = parent_registered d mem sound p (omega arith) in
-        along_changed mem _ _ _ _ (collect_step_changes d mem sound p there) (λ e. omega arith) (collect_step_kept d mem sound p there).sound)
+        along_changed mem _ _ _ _ (collect_step_changes d mem sound p there) (λ e. omega arith)
+        (collect_step_kept d mem sound p there).sound)
 
     along_take : Along d s mem (take_step d mem)
     along_take = record {

@@ -60,7 +60,8 @@ module _ (mem : List ℕ) (sound : Sound mem) (s : ℕ) (inside : s < (numbers_o
       quiet_trans d s mem _ _ (changed_quiet d s inside _ _ _ _ _ left)
       (quiet_trans d s _ _ _ (changed_quiet d s inside _ _ _ _ _ (recycle_step_changes d _ gone.sound (id_of token) again))
       (changed_quiet d s inside _ _ _ _ _
-      (add_step_changes d _ (deleted_kept d mem sound (id_of token) there room).sound.long_enough deleted_word 1 (omega arith) (omega arith)))))
+      (add_step_changes d _ (deleted_kept d mem sound (id_of token) there room).sound.long_enough deleted_word 1 (omega arith)
+      (omega arith)))))
 
   check_calm : (token required t : ℕ) → Calm (check_out mem token required t)
   check_calm token required t =

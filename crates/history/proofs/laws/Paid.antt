@@ -107,7 +107,8 @@ module _ (d : Numbers) (s : ℕ) (inside : s < d.spaces) (mem : List ℕ) where
       of_space = is_space d mem sound t there
 
       pub lookup_quiet : (token : ℕ) → Quiet d s mem (lookup_step d t token mem)
-      lookup_quiet token = step_quiet t _ _ (lookup_in_space d mem sound t there token) (omega (arith, lookup_paid d.most sp of_space token))
+      lookup_quiet token = step_quiet t _ _ (lookup_in_space d mem sound t there token)
+          (omega (arith, lookup_paid d.most sp of_space token))
 
       pub next_quiet : Quiet d s mem (next_step d t mem)
       next_quiet = step_quiet t _ _ (next_in_space d mem sound t there) (omega (arith, next_paid d.most sp of_space))

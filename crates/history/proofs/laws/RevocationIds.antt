@@ -37,7 +37,8 @@ module _ (d : Numbers) (mem : List ℕ) (sound : SoundAt d mem) where
   }
 
   -- A pair joins the log, and the epoch counts it.
-  joined_ids : (token : ℕ) → pairs_with d mem token ≤ d.pairs → SameIds d mem (add_step epoch_word 1 (log_step d (new_pair d mem token) mem))
+  joined_ids : (token : ℕ) → pairs_with d mem token ≤ d.pairs
+      → SameIds d mem (add_step epoch_word 1 (log_step d (new_pair d mem token) mem))
   joined_ids token fits = holdings_ids d mem _ (join_step d mem sound.long_enough (new_pair d mem token) fits 1).holdings
 
 pub ids_steady : (d : Numbers) → Steady d (NoneFreed d)

@@ -61,7 +61,8 @@ module _ (most : ℕ) (sp : List ℕ) (s : SpaceOf most sp) where
 
   pub insert_paid :
       (e : CapabilityEntry)
-      → (insert_out sp e).moved + potential_of (insert_out sp e).words ≤ potential_of sp + 3 * one (eqb (number_of (insert_out sp e).answer) 0)
+      → (insert_out sp e).moved + potential_of (insert_out sp e).words
+      ≤ potential_of sp + 3 * one (eqb (number_of (insert_out sp e).answer) 0)
   insert_paid e =
       insert_by_cases sp e
       (λ (o : InsertOut). o.moved + potential_of o.words ≤ potential_of sp + 3 * one (eqb (number_of o.answer) 0))

@@ -74,7 +74,8 @@ module _ (mem : List ℕ) (sound : Sound mem) (s : ℕ) (valid : s < (numbers_of
 
   pub visits_answered : VisitsOf mem s
   unfolding
-      space_reads.lookup_out space_reads.lookup_entry_out space_reads.check_rights_out space_reads.get_entry_out space.remove_out space.revoke_out
+      space_reads.lookup_out space_reads.lookup_entry_out space_reads.check_rights_out space_reads.get_entry_out space.remove_out
+      space.revoke_out
       manager.check_out revocation.revoke_held_out looked_up got_entry
   visits_answered = record {
     of_lookup = λ token. (

@@ -151,7 +151,8 @@ module _ (mem : List ℕ) (s object : ℕ) (valid : Bool) (cap_type rights : ℕ
         parentless d taken (take_step_kept d mem sound).sound t.id (rw same_count room) (taken_in_hand d mem sound t.id t.is)
 
     -- and both taking and registering one leave the spaces.
-    pub recorded_space : registered_of mem < (numbers_of mem).places → space_of (numbers_of mem) s (recorded t) ≡ space_of (numbers_of mem) s mem
+    pub recorded_space : registered_of mem < (numbers_of mem).places
+        → space_of (numbers_of mem) s (recorded t) ≡ space_of (numbers_of mem) s mem
     recorded_space room =
         let there = t.asked.there in
         (register_step_changes d taken (take_step_kept d mem sound).sound t.id object 0 (rw same_count room)).same_space s there

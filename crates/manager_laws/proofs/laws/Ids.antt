@@ -337,7 +337,8 @@ module _ (mem : List ℕ) (token source target rights : ℕ) where
 module _ (mem : List ℕ) (sound : Sound mem) where
   -- The id of a place of a memory that was kept.
   kept_spent :
-      (after : List ℕ) (id : ℕ) → Kept (numbers_of mem) mem after → place_in (numbers_of mem) after id < registered_of after → Spent after id
+      (after : List ℕ) (id : ℕ) → Kept (numbers_of mem) mem after → place_in (numbers_of mem) after id < registered_of after
+      → Spent after id
   kept_spent after id kept inside =
       let d : Numbers = numbers_of mem in
       subst (λ (d : Numbers). SpentAt d after id) (sym kept.numbers)

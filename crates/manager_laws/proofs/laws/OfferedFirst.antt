@@ -151,7 +151,8 @@ module _ (d : Numbers) (target p cap_type rights : ℕ) where
       first_left (suc m) k now h all =
           let inside : k < registered_of mem = omega arith in
           let as_was = h.as_fit k inside in
-          let unfit : fitting now k ≡ false → ¬ Fits mem k = λ no' fits. true≢false (sym ((fits_exactly mem k).1 fits) ∙ sym as_was ∙ no') in
+          let unfit : fitting now k ≡ false → ¬ Fits mem k =
+          λ no' fits. true≢false (sym ((fits_exactly mem k).1 fits) ∙ sym as_was ∙ no') in
           pick_by_cases (FirstFrom k) _ _ (open_child d now p k)
           (λ opened.
           pick_by_cases (FirstFrom k) _ _ (held_there now k)

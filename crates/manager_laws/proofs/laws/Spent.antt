@@ -76,7 +76,8 @@ module _ (d : Numbers) (mem : List ℕ) (sound : SoundAt d mem) where
   long = registry_words d mem sound.long_enough
 
   smallest_none :
-      0 < recycled_of mem → NoneFreed d mem (set (on_region d registry (first_taken d.places (recycled_of mem)) mem) 12 (recycled_of mem - 1))
+      0 < recycled_of mem → NoneFreed d mem (set (on_region d registry (first_taken d.places (recycled_of mem)) mem) 12
+      (recycled_of mem - 1))
   smallest_none some =
       let f : List ℕ → List ℕ = first_taken d.places m in
       let changed =

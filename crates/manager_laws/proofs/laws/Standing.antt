@@ -114,7 +114,8 @@ module _ (d : Numbers) (mem : List ℕ) (id object link : ℕ) (reg : Registrati
     pub admitted_ids : SameIds d mem (add_step i 1 (insert_step d s (new_entry token object rights) (register_step d id object link mem)))
     admitted_ids =
         ids_trans d mem id_registered after (register_ids d mem reg.sound id object link reg.room)
-        (ids_trans d id_registered with_entry after (insert_ids d id_registered there s valid e fits) (count_ids d with_entry inserted i low high))
+        (ids_trans d id_registered with_entry after (insert_ids d id_registered there s valid e fits)
+        (count_ids d with_entry inserted i low high))
 
     pub admitted_stands :
         Accepts (space_of d s (register_step d id object link mem)) (new_entry token object rights)

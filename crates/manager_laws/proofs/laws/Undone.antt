@@ -53,7 +53,8 @@ module _ (d : Numbers) (mem : List ℕ) (id object link : ℕ) (reg : Registrati
   inside = omega (arith, came.new_word)
 
   left :
-      RegistryChanged d (unregistered d.places (registered_of id_registered) n (view d registry id_registered)) 11 (registered_of id_registered - 1)
+      RegistryChanged d (unregistered d.places (registered_of id_registered) n (view d registry id_registered)) 11
+      (registered_of id_registered - 1)
       id_registered gone
   left = unregister_step_changes d id_registered there n inside
 
@@ -74,7 +75,8 @@ module _ (d : Numbers) (mem : List ℕ) (id object link : ℕ) (reg : Registrati
 
   gone_ids : SameIds d mem gone
   gone_ids =
-      ids_trans d mem id_registered gone (register_ids d mem reg.sound id object link reg.room) (unregister_ids d id_registered there n inside)
+      ids_trans d mem id_registered gone (register_ids d mem reg.sound id object link reg.room)
+      (unregister_ids d id_registered there n inside)
 
   gone_room : recycled_of gone ≤ d.places
   gone_room = rw gone_ids.same_count reg.hand.room
@@ -105,7 +107,8 @@ module _ (d : Numbers) (mem : List ℕ) (id object link : ℕ) (reg : Registrati
 
   -- The place that it leaves is the last.
   pub registering_undone :
-      let after = register_step d id object link mem in Undone d mem id (recycle_step d id (unregister_step d (registered_of after - 1) after))
+      let after = register_step d id object link mem in
+      Undone d mem id (recycle_step d id (unregister_step d (registered_of after - 1) after))
   registering_undone =
       let unmoved : registered_of id_registered - 1 ≡ n = omega (arith, came.new_word) in
       subst (λ k. Undone d mem id (recycle_step d id (unregister_step d k id_registered))) (sym unmoved) undone

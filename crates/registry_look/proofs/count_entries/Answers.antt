@@ -27,7 +27,8 @@ module _ (ids entries counts₀ counts : List ℕ) (j : ℕ) (done : Done ids en
       rw done.counted
       (record { most = λ k. omega (arith, (few_entries 65023 ids entries j counts₀ most).most k) })
 
-  goes : (after : List ℕ) → j < length entries → after ≡ count_entry ids (get_or entries j 0) counts → Done ids entries counts₀ after (j + 1)
+  goes : (after : List ℕ) → j < length entries → after ≡ count_entry ids (get_or entries j 0) counts
+      → Done ids entries counts₀ after (j + 1)
   unfolding count_entries fold
   goes after l e = record { inside = omega arith; counted = e ∙ rw (add-one, done.counted) }
 

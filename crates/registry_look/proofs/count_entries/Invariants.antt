@@ -1,4 +1,4 @@
--- `registry_look::count_in_entries` meets its contract: the entries before j are counted.
+-- `registry_look::count_entries` meets its contract: the entries before j are counted.
 use mathlib.Core.Path.{◌≡◌}
 use mathlib.Core.List.{List}
 use Prim.Native.Nat.{ℕ, ◌-◌, ◌≤◌}

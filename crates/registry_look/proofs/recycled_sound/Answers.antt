@@ -32,7 +32,8 @@ module _ (places n m next : ℕ) (rg : List ℕ) (last j : ℕ) (done : Done pla
     module _ (above : last < recycled_at places rg j) where
       not_issued : next ≤ recycled_at places rg j → false ≡ all m (recycled_id_test places n next rg)
       unfolding recycled_id_test
-      not_issued high = breaks (rw (← done.last_is, lt-ltb last (recycled_at places rg j) above, le-ltb (recycled_at places rg j) next high))
+      not_issued high =
+          breaks (rw (← done.last_is, lt-ltb last (recycled_at places rg j) above, le-ltb (recycled_at places rg j) next high))
 
       module _ (issued : recycled_at places rg j < next) (r : Bool) (e : r ≡ unregistered_id n (id_at rg) (recycled_at places rg j)) where
         tested : recycled_id_test places n next rg j ≡ r

@@ -41,7 +41,8 @@ returns-then-not-places_sound-clause-value c = broken _ _ _ _ _ _ c.places_sound
 
 pub returns-then-index-clause-value : goal.returns-then-index-clause-value
 returns-then-index-clause-value c =
-    let differs = c.if-index.true in goes _ _ _ _ _ _ c.places_sound.ensures (ap not c.if-not-places_sound.false) (omega arith) _ c.index.ensures.value _ differs
+    let differs = c.if-index.true in goes _ _ _ _ _ _ c.places_sound.ensures (ap not c.if-not-places_sound.false) (omega arith) _
+    c.index.ensures.value _ differs
     c.recycled_sound.ensures
 
 pub returns-clause-value : goal.returns-clause-value

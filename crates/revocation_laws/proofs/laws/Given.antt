@@ -52,7 +52,8 @@ module _ (mem : List ℕ) (token time : ℕ) (listed : List ℕ) (P : List ℕ �
 
   either_given :
       (Sound mem → place < registered_of mem → Given P (revoking d place time listed mem))
-      → (Sound mem → registered_of mem ≤ place → Given P (logging_token d token mem)) → Given P (revoke_capability_out mem token time listed)
+      → (Sound mem → registered_of mem ≤ place → Given P (logging_token d token mem))
+      → Given P (revoke_capability_out mem token time listed)
   either_given inside outside =
       revoke_capability_by_cases mem time listed (Given P) (λ bad. not_done _ (λ e. omega arith)) token
       (λ sound many. not_done _ (λ e. omega arith))
@@ -116,7 +117,8 @@ module _ (mem : List ℕ) (token time : ℕ) (listed : List ℕ) (P : List ℕ �
 
     pub held_listed :
         registered_of mem ≤ place
-        → (Sound mem → s < (numbers_of mem).spaces → Given P (logging_token (numbers_of mem) token (lookup_step (numbers_of mem) s token mem)))
+        → (Sound mem → s < (numbers_of mem).spaces
+        → Given P (logging_token (numbers_of mem) token (lookup_step (numbers_of mem) s token mem)))
         → Given P (revoke_held_out mem s token time listed)
     held_listed outside made =
         held_either_given (λ sound there some. absurd (omega (arith, same_registered d mem sound s there token)))

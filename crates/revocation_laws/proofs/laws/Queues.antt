@@ -110,7 +110,8 @@ module _ (mem : List ℕ) (token time : ℕ) (listed : List ℕ) (pid : ℕ) whe
 
   -- By a token that a space holds: the lookup leaves the registry and the queues.
   pub held_notices :
-      place_in (numbers_of mem) mem (id_of token) < registered_of mem → (s : ℕ) → (revoke_held_out mem s token time listed).reply.answer ≡ Done
+      place_in (numbers_of mem) mem (id_of token) < registered_of mem → (s : ℕ)
+      → (revoke_held_out mem s token time listed).reply.answer ≡ Done
       → notices_of (numbers_of mem) (revoke_held_out mem s token time listed).memory pid
       ≡ notices_after (numbers_of mem) mem place time listed pid
   held_notices inside s =
@@ -120,7 +121,8 @@ module _ (mem : List ℕ) (token time : ℕ) (listed : List ℕ) (pid : ℕ) whe
       let count = same_registered d mem sound s there token in
       let words = same_registry d mem sound s there token in
       let notices = same_notices d mem looked (same_queues d mem sound s there token) pid in
-      let same : notices_after d looked place time listed pid ≡ notices_after d mem place time listed pid = rw (notices, count, words) refl in
+      let same : notices_after d looked place time listed pid ≡ notices_after d mem place time listed pid =
+      rw (notices, count, words) refl in
       revoking_notices d looked (lookup_step_kept d mem sound s there token).sound place inside time listed pid e ∙ same)
 
   pub unregistered_notices :
@@ -130,7 +132,8 @@ module _ (mem : List ℕ) (token time : ℕ) (listed : List ℕ) (pid : ℕ) whe
       same_notices d mem _ (revoke_capability_unregistered mem token time listed outside e).same_queue pid
 
   pub held_unregistered_notices :
-      registered_of mem ≤ place_in (numbers_of mem) mem (id_of token) → (s : ℕ) → (revoke_held_out mem s token time listed).reply.answer ≡ Done
+      registered_of mem ≤ place_in (numbers_of mem) mem (id_of token) → (s : ℕ)
+      → (revoke_held_out mem s token time listed).reply.answer ≡ Done
       → notices_of (numbers_of mem) (revoke_held_out mem s token time listed).memory pid ≡ notices_of (numbers_of mem) mem pid
   held_unregistered_notices outside s e =
       let (sound, there) = held_done mem token time listed s e in

@@ -96,7 +96,8 @@ module _ (d : Numbers) (mem : List ℕ) (sound : SoundAt d mem) (id : ℕ) (insi
 
   -- The place of the j-th id is the j-th place.
   place_of_each : (j : ℕ) → j < length later → place_in d mem (get_or xs j 0) ≡ get_or later j 0
-  place_of_each j l = place_is n rg (get_or xs j 0) (get_or later j 0) sound.ids_differ (later_below.below j l) (sym (ids_at_each rg later j l))
+  place_of_each j l = place_is n rg (get_or xs j 0) (get_or later j 0) sound.ids_differ (later_below.below j l)
+      (sym (ids_at_each rg later j l))
 
   inner : (j : ℕ) → j < length xs → j < length later
   inner j l = rw (ids_at-length rg later) at l

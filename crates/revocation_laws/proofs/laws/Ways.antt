@@ -93,7 +93,8 @@ module _ (mem : List ℕ) (time : ℕ) (listed : List ℕ) (P : Left Reply → T
 
   pub revoke_by_cases :
       (token : ℕ) → (Sound mem → 32 < length listed → P (refuse mem BadField))
-      → (Sound mem → length listed ≤ 32 → registered_of mem ≤ place_in (numbers_of mem) mem (id_of token) → P (refuse mem InvalidCapability))
+      → (Sound mem → length listed ≤ 32 → registered_of mem ≤ place_in (numbers_of mem) mem (id_of token)
+      → P (refuse mem InvalidCapability))
       → (Sound mem → length listed ≤ 32 → place_in (numbers_of mem) mem (id_of token) < registered_of mem
       → P (revoking (numbers_of mem) (place_in (numbers_of mem) mem (id_of token)) time listed mem))
       → P (revoke_out mem token time listed)
@@ -169,7 +170,8 @@ module _ (mem : List ℕ) (sound : Sound mem) (time : ℕ) (listed : List ℕ) (
       (tokens : List ℕ) → length tokens ≤ 65535
       → revoke_batch_out mem tokens time listed ≡ revoking_each (numbers_of mem) tokens time listed 0 mem
   batch_called tokens fits =
-      batch_by_cases mem time listed (λ out. out ≡ revoking_each (numbers_of mem) tokens time listed 0 mem) (λ bad. absurd (bad sound)) tokens
+      batch_by_cases mem time listed (λ out. out ≡ revoking_each (numbers_of mem) tokens time listed 0 mem) (λ bad. absurd (bad sound))
+      tokens
       (λ sound over. absurd (omega arith)) (λ sound fits many. absurd (omega arith)) (λ sound fits few. refl)
 
   -- Held with REVOKE: what is revoked by the token, on the memory with the lookup counted.

@@ -83,7 +83,8 @@ module _ (d : Numbers) (mem : List ℕ) (sound : SoundAt d mem) (r : ℕ) (insid
       unrevoked_first d.places rg found r some start is
 
   -- where it is, so is all under it, and the cascade revokes nothing.
-  pub under_revoked : revoked (states d mem r) ≡ 1 → {k : ℕ} → Under (links d mem) r k → k < registered_of mem → revoked (states d mem k) ≡ 1
+  pub under_revoked : revoked (states d mem r) ≡ 1 → {k : ℕ} → Under (links d mem) r k → k < registered_of mem
+      → revoked (states d mem k) ≡ 1
   under_revoked gone itself l = gone
   under_revoked gone (below k p named under) l =
       sound.cascaded k l p named (under_revoked gone under (omega (arith, sound.linked k l)))

@@ -112,7 +112,8 @@ module _ (d : Numbers) (mem : List ℕ) (sound : SoundAt d mem) (r : ℕ) (insid
     with_epoch = add_step epoch_word count with_logged
 
     counted :
-        RegistryChanged d (view d registry with_marked) revoked_word ((get_or with_marked revoked_word 0 + count) % 2 ^ 64) with_marked with_counted
+        RegistryChanged d (view d registry with_marked) revoked_word ((get_or with_marked revoked_word 0 + count) % 2 ^ 64) with_marked
+        with_counted
     counted = add_step_changes d with_marked mark_step_kept.sound.long_enough revoked_word count (omega arith) (omega arith)
 
     counted_kept : Kept d mem with_counted

@@ -160,7 +160,8 @@ module _ (d : Numbers) (mem : List ℕ) (sound : SoundAt d mem) where
     abbrev is_for : ℕ → Bool
     is_for q = both (ltb 0 (lengths d mem q)) (eqb (pids d mem q) pid)
 
-    behind_others : queue_for d mem pid < d.queues → QueuesKept d mem (on_region d (queue (queue_for d mem pid)) (pushed id time reason) mem)
+    behind_others : queue_for d mem pid < d.queues
+        → QueuesKept d mem (on_region d (queue (queue_for d mem pid)) (pushed id time reason) mem)
     behind_others l =
         let q : ℕ = queue_for d mem pid in
         let qu : List ℕ = view d (queue q) mem in

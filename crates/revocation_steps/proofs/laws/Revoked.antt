@@ -88,7 +88,8 @@ module _ (d : Numbers) (mem : List ℕ) (sound : SoundAt d mem) (r : ℕ) (insid
     pub revoke_step_log_before :
         take (logged_of mem) (view d log (revoke_step d r time pids mem)) ≡ take (logged_of mem) (view d log mem)
     revoke_step_log_before =
-        rw (revoke_step_log d mem sound r inside fits time pids) (take_appended (logged_of mem) (cascade_pairs d mem r) (view d log mem) room)
+        rw (revoke_step_log d mem sound r inside fits time pids)
+        (take_appended (logged_of mem) (cascade_pairs d mem r) (view d log mem) room)
 
     -- It has what it had, and each id of the cascade with generation 0; nothing else.
     pub revoke_step-log_has :

@@ -34,7 +34,8 @@ holdings_refl d mem = record {
   same_space = λ s l. refl;
 }
 
-pub holdings_trans : (d : Numbers) (mem mem' mem'' : List ℕ) → SameHoldings d mem mem' → SameHoldings d mem' mem'' → SameHoldings d mem mem''
+pub holdings_trans : (d : Numbers) (mem mem' mem'' : List ℕ) → SameHoldings d mem mem' → SameHoldings d mem' mem''
+    → SameHoldings d mem mem''
 holdings_trans d mem mem' mem'' h g = record {
   numbers = g.numbers ∙ h.numbers;
   same_length = g.same_length ∙ h.same_length;

@@ -159,7 +159,8 @@ module _ (most : ℕ) (sp : List ℕ) (s : SpaceOf most sp) where
   pub removed_is_absent : (token : ℕ) → (looked_up (removed_token sp token) token).got ≡ Nothing
   removed_is_absent token = (nothing_exactly most _ (remove_keeps most sp s token) token).1 (λ x h is. ((remove_holds token x).0 h).1 is)
 
-  pub others_as_before_remove : (token other : ℕ) → other ≢ token → (looked_up (removed_token sp token) other).got ≡ (looked_up sp other).got
+  pub others_as_before_remove : (token other : ℕ) → other ≢ token
+      → (looked_up (removed_token sp token) other).got ≡ (looked_up sp other).got
   others_as_before_remove token other d =
       answered_as_before most sp _ other s (remove_keeps most sp s token)
       (λ x is. (λ h. ((remove_holds token x).0 h).0, λ h. (remove_holds token x).1 (h, λ e. d (sym is ∙ e))))

@@ -86,7 +86,8 @@ accepted_is_found mem s token object rights fits =
 pub accepted_is_answered :
     (mem : List ℕ) (s token object rights : ℕ) → rights < 2 ^ 32 → (insert_call_out mem s token object rights).reply.answer ≡ Done
     → (visits : ℕ)
-    × ((lookup_entry_out (insert_call_out mem s token object rights).memory s token).reply ≡ whole_entry (new_entry token object rights) visits)
+    × ((lookup_entry_out (insert_call_out mem s token object rights).memory s token).reply
+    ≡ whole_entry (new_entry token object rights) visits)
 accepted_is_answered mem s token object rights fits done =
     (_, holding_answers _ s token _ (accepted_is_found mem s token object rights fits done))
 

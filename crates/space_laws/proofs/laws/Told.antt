@@ -183,7 +183,8 @@ module _ (mem : List ℕ) (s : ℕ) where
         ↔ On mem s (quota_of sp ≤ (table_of sp).full)
     unfolding insert_call_out
     insert_told_11 =
-        told_on answer_of _ mem _ s (λ a. refl) SpaceQuota (inner SpaceQuota refl refl) (λ sound there. (insert_inserts sound there).at_quota)
+        told_on answer_of _ mem _ s (λ a. refl) SpaceQuota (inner SpaceQuota refl refl)
+        (λ sound there. (insert_inserts sound there).at_quota)
 
     pub insert_told_7 :
         ((insert_call_out mem s token object rights).reply.answer ≡ AlreadyExists)
@@ -309,7 +310,8 @@ module _ (mem : List ℕ) where
   unfolding alloc_out
   alloc_told_9 =
       world_by_cases
-      (λ (out : Left Reply). (answer_of out ≡ IdExhausted) ↔ (Sound mem × ((recycled_of mem ≤ 0) × (2 ^ 48 ≤ next_of mem)))) (refuse mem) mem _
+      (λ (out : Left Reply). (answer_of out ≡ IdExhausted)
+      ↔ (Sound mem × ((recycled_of mem ≤ 0) × (2 ^ 48 ≤ next_of mem)))) (refuse mem) mem _
       (λ bad. not_given BadWorld IdExhausted (λ e. omega (arith, e)) (λ (sound, none). bad sound))
       (λ sound.
       let (to, from) = exhausted_exactly (numbers_of mem) mem in

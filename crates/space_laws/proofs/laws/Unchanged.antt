@@ -41,7 +41,8 @@ use Rattle.space_laws.proofs.laws.Ways.{own_token, made_by_cases, create_by_case
 not_12 : (sp : List ℕ) (e : CapabilityEntry) → (insert_out sp e).answer ≢ SpaceIds
 not_12 sp e =
     insert_by_cases sp e (λ (o : InsertOut). o.answer ≢ SpaceIds)
-    (λ over is. omega (arith, ap number_of is)) (λ i under there is. omega (arith, ap number_of is)) (λ a is. omega (arith, ap number_of is))
+    (λ over is. omega (arith, ap number_of is)) (λ i under there is. omega (arith, ap number_of is))
+    (λ a is. omega (arith, ap number_of is))
 
 module _ (d : Numbers) (s : ℕ) (mem : List ℕ) where
   abbrev sp : List ℕ

@@ -32,7 +32,8 @@ module _ (d : Numbers) (mem : List ℕ) (sound : SoundAt d mem) where
   -- ---- an id is registered
 
   module _ (id object link : ℕ) (room : registered_of mem < d.places) where
-    pub register_step_changes : RegistryChanged d (registered d.places n id object link rg) 11 (n + 1) mem (register_step d id object link mem)
+    pub register_step_changes : RegistryChanged d (registered d.places n id object link rg) 11 (n + 1) mem
+        (register_step d id object link mem)
     unfolding register_step
     register_step_changes =
         registry_changed d mem sound.long_enough (registered d.places n id object link) 11 (n + 1) (omega arith) (omega arith)

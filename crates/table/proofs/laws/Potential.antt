@@ -76,7 +76,8 @@ insert_pays most ws t e s = go (crowded t) refl
     go false fits = rw (fits, zero-add) (placing_pays t _ (ltb-false _ _ fits) refl refl (omega arith))
 
 pub remove_pays :
-    (ws : List ℕ) (t : CapTable) (i : ℕ) → is_live ws i ≡ true → (removed_at ws t i).moved + potential (removed_at ws t i).counts ≤ potential t
+    (ws : List ℕ) (t : CapTable) (i : ℕ) → is_live ws i ≡ true
+    → (removed_at ws t i).moved + potential (removed_at ws t i).counts ≤ potential t
 unfolding removed_at
 remove_pays ws t i lives = go (ltb 1 t.full) refl
   where

@@ -77,7 +77,8 @@ slice_bounds-live-end c =
 
 pub slice_bounds-all_found-end : goal.slice_bounds-all_found-end
 slice_bounds-all_found-end c =
-    let called = c.kinds_sound.ensures in sym (taken _ _ (omega arith) _ called.value (ap not c.if-not-kinds_sound.false) _ called.live_after)
+    let called = c.kinds_sound.ensures in sym
+    (taken _ _ (omega arith) _ called.value (ap not c.if-not-kinds_sound.false) _ called.live_after)
 
 pub all_found-requires-clause-slots_value : goal.all_found-requires-clause-slots_value
 all_found-requires-clause-slots_value c =

@@ -107,7 +107,8 @@ bounds-mem-12 c = omega arith
 
 pub returns-then-not-registry_sound : goal.returns-then-not-registry_sound
 returns-then-not-registry_sound c =
-    ids_fail (placed (goal.at.returns-then-not-registry_sound c).After-registry_at-start) c.registry_sound.ensures.value c.if-not-registry_sound.true
+    ids_fail (placed (goal.at.returns-then-not-registry_sound c).After-registry_at-start) c.registry_sound.ensures.value
+    c.if-not-registry_sound.true
 
 pub spaces_sound-requires-clause-looked : goal.spaces_sound-requires-clause-looked
 spaces_sound-requires-clause-looked c =

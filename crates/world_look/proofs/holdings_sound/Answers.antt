@@ -41,7 +41,8 @@ holdings_by-requires-clause-mem_in_bounds c =
 pub holdings_by-requires-2-clause-chained : goal.holdings_by-requires-2-clause-chained
 holdings_by-requires-2-clause-chained c =
     let head = c.requires in
-    let fit : registered_of c.args.mem.now ≤ 4096 = omega (arith, head.registered_fit, head.in_range.places.1) in no_index _ _ 65536 4096 head (omega arith) (omega arith) fit
+    let fit : registered_of c.args.mem.now ≤ 4096 = omega (arith, head.registered_fit, head.in_range.places.1) in
+    no_index _ _ 65536 4096 head (omega arith) (omega arith) fit
 
 pub holdings_by-requires-2-clause-mem_in_bounds : goal.holdings_by-requires-2-clause-mem_in_bounds
 holdings_by-requires-2-clause-mem_in_bounds c =

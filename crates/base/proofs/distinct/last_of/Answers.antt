@@ -24,7 +24,8 @@ from xs n j word m at l h e =
     record {
       below = omega (arith, last_le (in_bucket xs n (bucket_of n word)) m);
       left = rw e (last_last (holds xs word) (in_bucket xs n (bucket_of n word)) own m ∙ h);
-      own = λ k u. eqb-true (bucket_of n (get_or xs k 0)) (bucket_of n word) (last_passes (in_bucket xs n (bucket_of n word)) m k (sym e ∙ u));
+      own = λ k u. eqb-true (bucket_of n (get_or xs k 0)) (bucket_of n word)
+          (last_passes (in_bucket xs n (bucket_of n word)) m k (sym e ∙ u));
     }
 
 -- ---- the walk's turns, in the code's words

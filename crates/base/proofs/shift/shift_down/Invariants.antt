@@ -6,7 +6,8 @@ use Rattle.base.specs.Shift.{shifted_down}
 use Rattle.base.proofs.shift.shift_down.Given as goal
 
 abbrev pub invariant-loop-i : goal.invariant-loop-i
-invariant-loop-i l = (l.i < l.end) × (length l.xs ≡ length l.initial.xs) × (shifted_down l.i l.end l.xs ≡ shifted_down l.at l.end l.initial.xs)
+invariant-loop-i l = (l.i < l.end) × (length l.xs ≡ length l.initial.xs)
+    × (shifted_down l.i l.end l.xs ≡ shifted_down l.at l.end l.initial.xs)
 
 abbrev pub decreases-loop-i : goal.decreases-loop-i
 decreases-loop-i l = l.end - l.i

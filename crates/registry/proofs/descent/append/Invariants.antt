@@ -10,7 +10,8 @@ pub record Appending (nexts : List ℕ) (head : ℕ) (order₀ : List ℕ) (coun
   pub inside : AtMost (length nexts) nexts
   pub room : found ≤ length order₀
   pub same : length order ≡ length order₀
-  pub answer : take found order ++ list_from nexts (length order₀ - found) at ≡ take count order₀ ++ list_from nexts (length order₀ - count) head
+  pub answer : take found order ++ list_from nexts (length order₀ - found) at ≡ take count order₀
+      ++ list_from nexts (length order₀ - count) head
 
 abbrev pub invariant-loop-found : goal.invariant-loop-found
 invariant-loop-found l = Appending l.nexts l.head l.initial.order l.count l.order l.at l.found

@@ -1,4 +1,4 @@
--- `registry::descent::ids_at_each` meets its contract: with the ids of the places from j on written behind those before, the area becomes the
+-- `registry::descent::ids_at` meets its contract: with the ids of the places from j on written behind those before, the area becomes the
 -- answer.
 use Rattle.std.proofs.Common.{ℕ, ◌-◌, List, length}
 use Rattle.base.specs.Written.{written, Writing}

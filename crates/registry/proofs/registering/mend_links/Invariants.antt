@@ -5,7 +5,8 @@ use Rattle.registry.proofs.registering.mend_links.Given as goal
 
 abbrev pub invariant-loop-left : goal.invariant-loop-left
 invariant-loop-left l =
-    (l.at + l.left ≤ length l.initial.rg) × (length l.rg ≡ length l.initial.rg) × (links_mended l.k l.at l.left l.rg ≡ links_mended l.k l.i l.m l.initial.rg)
+    (l.at + l.left ≤ length l.initial.rg) × (length l.rg ≡ length l.initial.rg)
+    × (links_mended l.k l.at l.left l.rg ≡ links_mended l.k l.i l.m l.initial.rg)
 
 abbrev pub decreases-loop-left : goal.decreases-loop-left
 decreases-loop-left l = l.left

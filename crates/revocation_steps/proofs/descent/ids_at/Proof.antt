@@ -1,4 +1,4 @@
--- The registry is lent to `registry::descent::ids_at_each`.
+-- The registry is lent to `registry::descent::ids_at`.
 use native.Mathlib.Omega.{arith}
 use borrow.Author.Rules.{rules}
 use Rattle.registry.specs.PlaceLists.{all_below_more}

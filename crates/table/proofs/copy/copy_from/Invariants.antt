@@ -13,7 +13,8 @@ invariant-loop-i l =
     (l.i ≤ l.count)
     × (length l.words ≡ length l.initial.words)
     × Bounded l.count l.i (leaves l.words l.s)
-    × (insert_all (scratch_entries l.scratch l.i (l.count - l.i)) (leaves l.words l.s) ≡ insert_all (scratch_entries l.scratch 0 l.count) (leaves l.initial.words l.initial.s))
+    × (insert_all (scratch_entries l.scratch l.i (l.count - l.i)) (leaves l.words l.s)
+    ≡ insert_all (scratch_entries l.scratch 0 l.count) (leaves l.initial.words l.initial.s))
 
 abbrev pub decreases-loop-i : goal.decreases-loop-i
 decreases-loop-i l = l.count - l.i

@@ -7,7 +7,8 @@ use Rattle.table.specs.Copy.{nth_of}
 use Rattle.table.proofs.copy.nth_entry.Given as goal
 
 abbrev pub invariant-loop-i : goal.invariant-loop-i
-invariant-loop-i l = (l.i ≤ l.slots) × (nth_of (live_entries l.words l.i (l.slots - l.i)) l.past ≡ nth_of (live_entries l.words 0 l.slots) l.n)
+invariant-loop-i l = (l.i ≤ l.slots) × (nth_of (live_entries l.words l.i (l.slots - l.i)) l.past
+    ≡ nth_of (live_entries l.words 0 l.slots) l.n)
 
 abbrev pub decreases-loop-i : goal.decreases-loop-i
 decreases-loop-i l = l.slots - l.i

@@ -10,7 +10,8 @@ abbrev pub invariant-loop-i : goal.invariant-loop-i
 invariant-loop-i l =
     (l.i ≤ l.count)
     × (length l.words ≡ length l.initial.words)
-    × (place_all (scratch_entries l.scratch l.i (l.count - l.i)) l.words l.slots ≡ place_all (scratch_entries l.scratch 0 l.count) l.initial.words l.slots)
+    × (place_all (scratch_entries l.scratch l.i (l.count - l.i)) l.words l.slots
+    ≡ place_all (scratch_entries l.scratch 0 l.count) l.initial.words l.slots)
 
 abbrev pub decreases-loop-i : goal.decreases-loop-i
 decreases-loop-i l = l.count - l.i

@@ -36,4 +36,5 @@ returns-clause-value c =
 
 pub returns-clause-words_after : goal.returns-clause-words_after
 returns-clause-words_after c =
-    let gathering = c.gather-count.ensures in placed _ _ _ _ _ _ _ _ gathering.result_after (omega arith) c.empty_slots-2.ensures c.place_all.ensures
+    let gathering = c.gather-count.ensures in
+    placed _ _ _ _ _ _ _ _ gathering.result_after (omega arith) c.empty_slots-2.ensures c.place_all.ensures

@@ -8,7 +8,8 @@ use Rattle.table.proofs.walk.find_from.Given as goal
 
 abbrev pub invariant-loop-passed : goal.invariant-loop-passed
 invariant-loop-passed l =
-    (l.passed ≤ l.n) × (l.i < l.slots) × (search_from l.words l.slots l.id l.from l.n ≡ later l.passed (search_from l.words l.slots l.id l.i (l.n - l.passed)))
+    (l.passed ≤ l.n) × (l.i < l.slots) × (search_from l.words l.slots l.id l.from l.n
+    ≡ later l.passed (search_from l.words l.slots l.id l.i (l.n - l.passed)))
 
 abbrev pub decreases-loop-passed : goal.decreases-loop-passed
 decreases-loop-passed l = l.n - l.passed

@@ -8,7 +8,8 @@ use Rattle.table.proofs.walk.free_for.Given as goal
 
 abbrev pub invariant-loop-steps : goal.invariant-loop-steps
 invariant-loop-steps l =
-    (l.steps ≤ l.slots) × (l.i < l.slots) × (l.i ≡ walk l.id l.slots l.steps) × (steps_to_free l.words l.slots l.id ≡ free_from l.words l.slots l.id l.steps)
+    (l.steps ≤ l.slots) × (l.i < l.slots) × (l.i ≡ walk l.id l.slots l.steps)
+    × (steps_to_free l.words l.slots l.id ≡ free_from l.words l.slots l.id l.steps)
 
 abbrev pub decreases-loop-steps : goal.decreases-loop-steps
 decreases-loop-steps l = l.slots - l.steps

@@ -35,21 +35,33 @@ first c =
     let a = c.args.self.0 in
     let told = c.contains.ensures in
     let before = sym (mod-one a) in
-    elim c.if-contains.branch [ then-contains w ↦ w.flags-is ∙ added a 0 told before w.if-contains.true | else-contains w ↦ w.flags-is ∙ passed a 0 told before w.if-contains.false ]
+    elim c.if-contains.branch [
+      | then-contains w ↦ w.flags-is ∙ added a 0 told before w.if-contains.true
+      | else-contains w ↦ w.flags-is
+          ∙ passed a 0 told before w.if-contains.false
+    ]
 
 second : (c : Joined-contains-2) → c.if-contains-2.flags ≡ c.args.self.0 % 2 ^ 2
 second c =
     let a = c.args.self.0 in
     let told = c.contains-2.ensures in
     let before = first c.before.before in
-    elim c.if-contains-2.branch [ then-contains-2 w ↦ w.flags-is ∙ added a 1 told before w.if-contains-2.true | else-contains-2 w ↦ w.flags-is ∙ passed a 1 told before w.if-contains-2.false ]
+    elim c.if-contains-2.branch [
+      | then-contains-2 w ↦ w.flags-is
+          ∙ added a 1 told before w.if-contains-2.true
+      | else-contains-2 w ↦ w.flags-is ∙ passed a 1 told before w.if-contains-2.false
+    ]
 
 third : (c : Joined-contains-3) → c.if-contains-3.flags ≡ c.args.self.0 % 2 ^ 3
 third c =
     let a = c.args.self.0 in
     let told = c.contains-3.ensures in
     let before = second c.before.before in
-    elim c.if-contains-3.branch [ then-contains-3 w ↦ w.flags-is ∙ added a 2 told before w.if-contains-3.true | else-contains-3 w ↦ w.flags-is ∙ passed a 2 told before w.if-contains-3.false ]
+    elim c.if-contains-3.branch [
+      | then-contains-3 w ↦ w.flags-is
+          ∙ added a 2 told before w.if-contains-3.true
+      | else-contains-3 w ↦ w.flags-is ∙ passed a 2 told before w.if-contains-3.false
+    ]
 
 pub returns-then-contains-4 : goal.returns-then-contains-4
 returns-then-contains-4 c =
