@@ -1,0 +1,18 @@
+-- No place before q passes, so the first from q on is the first.
+use mathlib.Core.Path.{◌≡◌}
+use Prim.Native.Nat.{◌-◌, ◌≤◌}
+use lib.Dec.{eqb}
+use lib.ListN.{length}
+use Rattle.base.specs.Below.{first_from}
+use Rattle.world.specs.Sound.{lengths}
+use Rattle.revocation_steps.specs.Revocation.{free_queue}
+use Rattle.revocation_steps.proofs.AlongQueues.{Along}
+use Rattle.revocation_steps.proofs.queues.free_queue.Given as goal
+
+abbrev pub invariant-loop-q : goal.invariant-loop-q
+invariant-loop-q l =
+    (l.at ≤ length l.mem) × (l.q ≤ l.d.queues) × Along l.d l.q l.at
+    × (free_queue l.d l.mem ≡ first_from (λ q. eqb (lengths l.d l.mem q) 0) (l.d.queues - l.q) l.q)
+
+abbrev pub decreases-loop-q : goal.decreases-loop-q
+decreases-loop-q l = l.d.queues - l.q
