@@ -60,7 +60,7 @@ pub combines_exactly_permissions : (ns : List ℕ) → (all_flags ns ≡ true) �
 combines_exactly_permissions ns = (each ns, every ns)
   where
     each : (ns : List ℕ) → all_flags ns ≡ true → (n : ℕ) → Memᴰ n ns → is_flag (named n) ≡ true
-    each [] all n x'' = elim x'' [ ]
+    each [] all n m = elim m [ ]
     each (x ∷ xs) all n (Memᴰ.head e) = rw e (both_left (is_flag (named x)) (all_flags xs) all)
     each (x ∷ xs) all n (Memᴰ.tail m) = each xs (both_right (is_flag (named x)) (all_flags xs) all) n m
 

@@ -37,7 +37,7 @@ use Rattle.world.specs.Numbers.{registered_of}
 use Rattle.world.specs.Sound.{states, SoundAt}
 use Rattle.world.specs.declared.Numbers.{Numbers}
 use Rattle.history.specs.Call.{Call}
-use Rattle.history.specs.Walks.{Walk, Inserts, moving, entering, Copies, this_entry, later_entry, seeking, InsertsInto, testing, storing, Offers, this_child, after_a_miss, past_others, WithRoom, few_children, collected, MakesChild, Delegates, offering_child, making, looking, Looks, looking_over, WalksOf}
+use Rattle.history.specs.Walks.{Walk, Inserts, moving, entering, Copies, this_entry, later_entry, seeking, InsertsInto, testing, storing, Offers, this_child, after_a_miss, past_others, WithRoom, few_children, collected, MakesChild, Delegates, offering_child, making, LooksOver, looking, Looks, looking_over, WalksOf}
 use Rattle.history.specs.Walks.{before_reading, before_accepting, before_changing, in_get_entry, in_lookup, in_lookup_entry, in_check_rights, in_remove, in_space_revoke, in_check, in_revoke_held, in_insert, in_copy, in_space_create, in_create, in_delegate_source, in_delegate}
 
 abbrev Short : Walk → Type 0
@@ -69,8 +69,8 @@ AllShort (e ∷ es) u = ((w : Walk) → Inserts u.words u.counts (id_of e) w →
 
 copies_short : (es : List CapabilityEntry) (u : Table) (w : Walk) → AllShort es u → Copies es u w → Short w
 unfolding AllShort
-copies_short _ _ _ (here, later) (this_entry e rest u w walk) = here w walk
-copies_short _ _ _ (here, later) (later_entry e rest u w walks) = copies_short rest (insert_all (e ∷ []) u) w later walks
+copies_short _ _ _ all (this_entry e rest u w walk) = all.0 w walk
+copies_short _ _ _ all (later_entry e rest u w walks) = copies_short rest (insert_all (e ∷ []) u) w all.1 walks
 
 module _
     (most : ℕ) (source : List ℕ) (t : CapTable) (target : List ℕ) (sound : table.Sound most source t)
@@ -167,7 +167,10 @@ delegates_short d mem target token rights _ sound to (making w child) =
 
 module _ (d : Numbers) (mem : List ℕ) (sound : SoundAt d mem) where
   look_short : (w : Walk) → Looks d mem w → Short w
-  look_short _ (looking_over s _ valid (looking i l live)) = seeking_short d mem sound s valid _
+  look_short _ (looking_over s w valid over) = over_short s valid w over
+    where
+      over_short : (s : ℕ) → s < d.spaces → (w : Walk) → LooksOver (space_of d s mem) w → Short w
+      over_short s valid _ (looking i l live) = seeking_short d mem sound s valid _
 
   pub walk_is_short : (call : Call) (w : Walk) → WalksOf d mem call w → w.visits ≤ w.live + w.removed + 1
   walk_is_short _ _ (before_reading call w look) = look_short w look
