@@ -3,7 +3,6 @@ use mathlib.Core.List.{List}
 use mathlib.Core.Path.{◌≡◌, refl, sym, ◌∙◌}
 use Prim.Native.Nat.{ℕ, ◌*◌, ◌<◌, ◌≤◌}
 use native.Mathlib.Omega.{arith}
-use borrow.Author.Rules.{rules}
 use borrow.Author.Tests.{lt-ltb}
 use lib.ListN.{length}
 use Rattle.base.specs.Written.{written}
@@ -17,8 +16,7 @@ use Rattle.world.specs.Sound.{SoundAt, lengths}
 use Rattle.world.specs.declared.Numbers.{Numbers}
 use Rattle.notification_calls.specs.Calls.{count_for, peeked}
 use Rattle.notification_calls.proofs.Noticing.{there, count_there, none_for}
-use Rattle.notification_calls.proofs.notices.copy_for.Statement.{statement}
-use Rattle.notification_calls.proofs.notices.copy_for.Tie as tie
+use Rattle.notification_calls.proofs.notices.copy_for.Goals as goal
 
 module _ (d : Numbers) (mem : List ℕ) (q count : ℕ) (area : List ℕ) (counted : count ≡ count_for d mem q) where
   module _ (some : 0 < count) where
@@ -41,31 +39,9 @@ module _ (d : Numbers) (mem : List ℕ) (q count : ℕ) (area : List ℕ) (count
       let zero : 0 ≡ count_for d mem q = omega arith in
       rw (none_for d mem q zero, ← zero)
 
-copy_notices_requires : tie.Need-copy-notices-requires
-copy_notices_requires c κs =
-    let begun = c.before.before.before.before in
-    let given = begun.args in
-    let (sound, counted, room) = begun.requires in
-    copies given.d given.mem.now given.q given.count given.area.now counted c.before.if1.true sound room
-
-returns : tie.Need-returns
+pub returns : goal.returns
 returns c =
-    let copy = c.before.before.before in
-    let begun = copy.before.before.before.before.before in
-    let given = begun.args in
-    area_is c.done.ensures copy.copy-notices.ensures
-    (copied given.d given.mem.now given.q given.count given.area.now begun.requires.1
-    copy.before.before.if1.true)
-
-returns_2 : tie.Need-returns-2
-returns_2 c =
-    let begun = c.before.before.before.before in
-    let given = begun.args in
-    area_is c.done2.ensures refl
-    (stays given.d given.mem.now given.q given.count given.area.now begun.requires.1
-    c.before.if1.false)
-
-pub copy-for-spec : {M : Type 1} → statement M
-copy-for-spec =
-    tie.close
-    (tie.spec copy_notices_requires (λ c κs. search rules) (λ c. search rules) returns (λ c κs. search rules) returns_2)
+    let given = c.args in
+    area_is c.done-2.ensures refl
+    (stays given.d given.mem.now given.q given.count given.area.now c.requires.1
+    c.if-count-gt0.false)

@@ -5,8 +5,7 @@ use Rattle.answers.specs.declared.Answer.TheVariants.{Done}
 use Rattle.steps.proofs.WorldCalls.{world_calls}
 use Rattle.notification_calls.specs.Calls.{notification_stats_out}
 use Rattle.notification_calls.specs.declared.QueuesReply.{QueuesReply}
-use Rattle.notification_calls.proofs.stats.notification_stats.Statement.{statement}
-use Rattle.notification_calls.proofs.stats.notification_stats.Tie as tie
+use Rattle.notification_calls.proofs.stats.notification_stats.Goals as goal
 
 both_counted :
     (p p' n n' : ℕ) → p ≡ p' → n ≡ n'
@@ -16,9 +15,18 @@ both_counted p p' n n' = ap₂ (λ p n. record { answer = Done; processes = p; n
 
 ruleset laws = (world_calls, both_counted)
 
-pub notification-stats-spec : {M : Type 1} → statement M
+pub used_queues-requires : goal.used_queues-requires
 unfolding notification_stats_out
-notification-stats-spec =
-    tie.close
-    (tie.spec (λ c κs. search laws) (λ c. search laws) (λ c κs. search laws) (λ c. search laws) (λ c κs. search laws) (λ c κs. search laws)
-    (λ c. search laws) (λ c. search laws))
+used_queues-requires c = search laws
+
+pub all_notices-requires : goal.all_notices-requires
+unfolding notification_stats_out
+all_notices-requires c = search laws
+
+pub returns-in-Refused : goal.returns-in-Refused
+unfolding notification_stats_out
+returns-in-Refused c = search laws
+
+pub returns-in-Good : goal.returns-in-Good
+unfolding notification_stats_out
+returns-in-Good c = search laws
