@@ -1,5 +1,4 @@
 -- Entered, an id too large is refused, then an area too short; else the children are written to it.
-use borrow.Author.Rules.{rules}
 use mathlib.Core.List.{List}
 use mathlib.Core.Path.{◌≡◌, refl, sym, ◌∙◌}
 use Prim.Native.Nat.{ℕ, ◌<◌, ◌≤◌}
@@ -20,8 +19,7 @@ use Rattle.world.specs.Numbers.{registered_of}
 use Rattle.world.specs.Regions.{registry, view}
 use Rattle.world.specs.declared.Numbers.{Numbers}
 use Rattle.manager_calls.specs.Calls.{children_out}
-use Rattle.manager_calls.proofs.read.get_children.Statement.{statement}
-use Rattle.manager_calls.proofs.read.get_children.Tie as tie
+use Rattle.manager_calls.proofs.read.get_children.Goals as goal
 
 -- By the place p that the code found for the id, and the children that it counted there.
 module _ (d : Numbers) (mem : List ℕ) (id p : ℕ) (is_place : p ≡ place_in d mem id) (count : ℕ) (counted : count ≡ children_of d mem p)
@@ -45,26 +43,37 @@ module _ (d : Numbers) (mem : List ℕ) (id p : ℕ) (is_place : p ≡ place_in 
 
 ruleset laws = (world_enters, chooses, too_short, lists)
 
-child_count_requires : tie.Need-child-count-requires
-child_count_requires c κs =
-    let seen = c.before.before.before in
-    let ready = world_ready _ _ seen.before.before.enter-world.ensures _ seen.d.given.1 in
-    (ready, omega (arith, c.place-of.ensures.1, ready.registered_fit))
+pub returns-then-id-ge281474976710656 : goal.returns-then-id-ge281474976710656
+unfolding children_out
+returns-then-id-ge281474976710656 c = search laws depth 8
 
-list_children_requires : tie.Need-list-children-requires
-list_children_requires c κs =
-    let finds = c.before.before.before in
-    let seen = finds.before.before.before in
-    let ready = world_ready _ _ seen.before.before.enter-world.ensures _ seen.d.given.1 in (
+pub place_of-p-requires : goal.place_of-p-requires
+unfolding children_out
+place_of-p-requires c = search world_enters
+
+pub child_count-count-requires : goal.child_count-count-requires
+unfolding children_out
+child_count-count-requires c =
+    let ready = world_ready _ _ c.enter_world.ensures _ c.in-Good.is in
+    (ready, omega (arith, c.place_of-p.ensures.1, ready.registered_fit))
+
+pub returns-then-area-count : goal.returns-then-area-count
+unfolding children_out
+returns-then-area-count c = search laws depth 8
+
+pub list_children-requires : goal.list_children-requires
+unfolding children_out
+list_children-requires c =
+    let ready = world_ready _ _ c.enter_world.ensures _ c.in-Good.is in (
       ready,
-      omega (arith, finds.place-of.ensures.1, ready.registered_fit),
-      rw (← c.before.before.child-count.ensures) c.before.if2.false,
+      omega (arith, c.place_of-p.ensures.1, ready.registered_fit),
+      rw (← c.child_count-count.ensures) c.if-area-count.false,
     )
 
-pub get-children-spec : {M : Type 1} → statement M
+pub returns-in-Refused : goal.returns-in-Refused
 unfolding children_out
-get-children-spec =
-    tie.close
-    (tie.spec (λ c κs. search rules) (λ c. search rules) (λ c κs. search rules) (λ c. search rules) (λ c κs. search rules)
-    (λ c. search laws depth 8) (λ c κs. search world_enters) child_count_requires (λ c κs. search rules) (λ c. search laws depth 8)
-    list_children_requires (λ c κs. search rules) (λ c. search laws depth 8) (λ c. search rules) (λ c. search laws depth 8))
+returns-in-Refused c = search laws depth 8
+
+pub returns-else-area-count : goal.returns-else-area-count
+unfolding children_out
+returns-else-area-count c = search laws depth 8

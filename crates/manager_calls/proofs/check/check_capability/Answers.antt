@@ -1,5 +1,4 @@
 -- Entered, the token is looked up; its rights are tested, then whether it is valid.
-use borrow.Author.Rules.{rules}
 use mathlib.Core.Bool.{Bool, true, false, not}
 use mathlib.Core.List.{List}
 use mathlib.Core.Path.{◌≡◌, refl, sym, ap, ◌∙◌}
@@ -21,8 +20,7 @@ use Rattle.steps.specs.declared.Entered.TheVariants.{Good}
 use Rattle.steps.specs.declared.Reply.{Reply}
 use Rattle.world.specs.declared.Numbers.{Numbers}
 use Rattle.manager_calls.specs.Calls.{valid_in, grants, check_out}
-use Rattle.manager_calls.proofs.check.check_capability.Statement.{statement}
-use Rattle.manager_calls.proofs.check.check_capability.Tie as tie
+use Rattle.manager_calls.proofs.check.check_capability.Goals as goal
 
 -- By what the code saw: r of the memory, l of the space, which left `after`.
 module _ (mem : List ℕ) (token required s : ℕ) (r : Entered) (seen : r ≡ entered_space mem s) (d : Numbers) (good : r ≡ Good d)
@@ -57,13 +55,21 @@ module _ (mem : List ℕ) (token required s : ℕ) (r : Entered) (seen : r ≡ e
 
 ruleset laws = (enters, still_ready, without, stale, passes)
 
-returns_3 : tie.Need-returns-3
-unfolding check_out
-returns_3 c = search enters
+pub lookup-l-requires : goal.lookup-l-requires
+lookup-l-requires c = search enters
 
-pub check-capability-spec : {M : Type 1} → statement M
-check-capability-spec =
-    tie.close
-    (tie.spec (λ c κs. search rules) (λ c. search rules) (λ c κs. search rules) (λ c. search rules) (λ c κs. search enters)
-    (λ c κs. search rules) (λ c κs. search rules) (λ c. search rules) (λ c. search laws) (λ c κs. search laws) (λ c κs. search rules)
-    (λ c. search rules) (λ c. search laws) (λ c κs. search rules) (λ c. search rules) returns_3 (λ c. search rules) (λ c. search laws))
+pub returns-then-not-grants : goal.returns-then-not-grants
+returns-then-not-grants c = search laws
+
+pub valid_in-requires : goal.valid_in-requires
+valid_in-requires c = search laws
+
+pub returns-then-not-valid_in : goal.returns-then-not-valid_in
+returns-then-not-valid_in c = search laws
+
+pub returns-in-Refused : goal.returns-in-Refused
+unfolding check_out
+returns-in-Refused c = search enters
+
+pub returns-else-not-valid_in : goal.returns-else-not-valid_in
+returns-else-not-valid_in c = search laws

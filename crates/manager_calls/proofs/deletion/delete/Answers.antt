@@ -19,8 +19,7 @@ use Rattle.token.specs.Token.{id_of}
 use Rattle.world.specs.Numbers.{registered_of, recycled_of}
 use Rattle.world.specs.declared.Numbers.{Numbers}
 use Rattle.manager_calls.specs.Calls.{delete_out}
-use Rattle.manager_calls.proofs.deletion.delete.Statement.{statement}
-use Rattle.manager_calls.proofs.deletion.delete.Tie as tie
+use Rattle.manager_calls.proofs.deletion.delete.Goals as goal
 
 -- The call by what the code saw, r, and the place k that it found for the id.
 deletes :
@@ -36,14 +35,27 @@ deletes mem r seen d good token id k is_id is_place out is = rw (is_place, is_id
 
 ruleset laws = (rules, world_enters, chooses, deletes)
 
-returns_3 : tie.Need-returns-3
-unfolding delete_out
-returns_3 c = search world_enters
+pub place_of-k-requires : goal.place_of-k-requires
+place_of-k-requires c = search laws
 
-pub delete-spec : {M : Type 1} → statement M
-delete-spec =
-    tie.close
-    (tie.spec (λ c κs. search rules) (λ c. search rules) (λ c κs. search rules) (λ c. search rules) (λ c κs. search rules)
-    (λ c κs. search laws) (λ c. search laws) (λ c κs. search rules) (λ c. search rules) (λ c. search laws depth 8) (λ c. search laws)
-    (λ c κs. search rules) (λ c. search rules) (λ c. search laws depth 8) (λ c κs. search laws) (λ c κs. search rules) (λ c. search rules)
-    returns_3 (λ c. search rules) (λ c. search laws depth 8))
+pub bounds-mem-11 : goal.bounds-mem-11
+bounds-mem-11 c = search laws
+
+pub returns-then-mem-k : goal.returns-then-mem-k
+returns-then-mem-k c = search laws depth 8
+
+pub bounds-mem-12 : goal.bounds-mem-12
+bounds-mem-12 c = search laws
+
+pub returns-then-d-mem : goal.returns-then-d-mem
+returns-then-d-mem c = search laws depth 8
+
+pub delete_at-requires : goal.delete_at-requires
+delete_at-requires c = search laws
+
+pub returns-in-Refused : goal.returns-in-Refused
+unfolding delete_out
+returns-in-Refused c = search world_enters
+
+pub returns-else-d-mem : goal.returns-else-d-mem
+returns-else-d-mem c = search laws depth 8

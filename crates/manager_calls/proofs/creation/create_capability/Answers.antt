@@ -1,0 +1,55 @@
+-- Entered, the type and the object's flag are looked at, then an id is taken.
+use mathlib.Core.List.{List}
+use mathlib.Core.Path.{◌≡◌, sym, ap₂, ◌∙◌}
+use Prim.Native.Nat.{ℕ}
+use Rattle.steps.proofs.Entering.{space_ready, enters}
+use Rattle.base.specs.Cases.{chooses}
+use Rattle.steps.proofs.laws.ReadyKept.{ready_take, take_room}
+use Rattle.steps.specs.Replies.{Left}
+use Rattle.steps.specs.Steps.{taken_id, take_step}
+use Rattle.steps.specs.declared.Reply.{Reply}
+use Rattle.steps.specs.declared.Taken.{Taken}
+use Rattle.world.specs.declared.Numbers.{Numbers}
+use Rattle.manager_calls.specs.Calls.{created, create_out}
+use Rattle.manager_calls.proofs.creation.create_capability.Goals as goal
+
+-- By what the code took, t, and the memory that it left.
+takes :
+    (d : Numbers) (mem after : List ℕ) → after ≡ take_step d mem → (t seen : Taken) → t ≡ taken_id d mem → t ≡ seen
+    → (s object cap_type rights : ℕ) (out : Left Reply) → out ≡ created d s object cap_type rights after seen
+    → out ≡ created d s object cap_type rights (take_step d mem) (taken_id d mem)
+takes d mem after leaves t seen is is_seen s object cap_type rights out told =
+    told ∙ ap₂ (created d s object cap_type rights) leaves (sym is_seen ∙ is)
+
+ruleset laws = (enters, chooses, takes)
+
+pub returns-then-cap_type-gt15 : goal.returns-then-cap_type-gt15
+unfolding create_out
+returns-then-cap_type-gt15 c = search laws depth 8
+
+pub returns-then-not-valid : goal.returns-then-not-valid
+unfolding create_out
+returns-then-not-valid c = search laws depth 8
+
+pub take_id-requires : goal.take_id-requires
+unfolding create_out
+take_id-requires c = search enters
+
+pub create_with-requires : goal.create_with-requires
+unfolding create_out
+create_with-requires c =
+    let (ready, there) = space_ready _ _ _ c.enter_space.ensures _ c.in-Good.is in
+    let room = take_room _ _ ready _ (sym c.take_id.ensures.value ∙ c.in-Id.is) in
+    rw c.take_id.ensures.mem_after (ready_take _ _ ready, there, c.if-cap_type-gt15.false, room)
+
+pub returns-in-Refused : goal.returns-in-Refused
+unfolding create_out
+returns-in-Refused c = search laws depth 8
+
+pub returns-in-Id : goal.returns-in-Id
+unfolding create_out
+returns-in-Id c = search laws depth 8
+
+pub returns-in-Exhausted : goal.returns-in-Exhausted
+unfolding create_out
+returns-in-Exhausted c = search laws depth 8
