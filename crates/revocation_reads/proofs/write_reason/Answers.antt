@@ -1,5 +1,4 @@
 -- A number that is no reason's is refused, then an area too short for its name; else the name is written to it.
-use borrow.Author.Rules.{rules}
 use mathlib.Core.List.{List}
 use mathlib.Core.Path.{◌≡◌, refl, sym, ap, ◌∙◌}
 use Prim.Native.Nat.{ℕ, ◌<◌, ◌≤◌}
@@ -14,8 +13,7 @@ use Rattle.steps.proofs.Leaving.{area_is}
 use Rattle.steps.proofs.laws.Listed.{into_short, into_fits}
 use Rattle.steps.specs.Replies.{WithArea, done, refusal, into_area}
 use Rattle.revocation_reads.specs.Calls.{reason_out}
-use Rattle.revocation_reads.proofs.write_reason.Statement.{statement}
-use Rattle.revocation_reads.proofs.write_reason.Tie as tie
+use Rattle.revocation_reads.proofs.write_reason.Goals as goal
 
 module _ (number : ℕ) (area : List ℕ) where
   no_reason : 3 < number → reason_out number area ≡ record { reply = refusal BadField; area = area }
@@ -38,29 +36,17 @@ module _ (number : ℕ) (area : List ℕ) where
           named ∙ into_fits (name_of reason) area n (sym counted) l
           ∙ ap {B = WithArea} (λ n. record { reply = done n; area = written (name_of reason) area }) (counted ∙ sym told)
 
-returns : tie.Need-returns
-returns c = area_is c.refusal.ensures refl (no_reason _ _ c.before.if1.true)
+pub returns-then-reason-gt3 : goal.returns-then-reason-gt3
+returns-then-reason-gt3 c = area_is c.refusal.ensures refl (no_reason _ _ c.if-reason-gt3.true)
 
-returns_2 : tie.Need-returns-2
-returns_2 c =
-    let counts = c.before.before in
-    area_is c.refusal2.ensures refl
-    (too_short _ _ counts.before.before.if1.false _ counts.before.reason-of.ensures _ counts.name-length.ensures
-    c.before.if2.true)
+pub returns-then-area-name_length : goal.returns-then-area-name_length
+returns-then-area-name_length c =
+    area_is c.refusal-then-area-name_length.ensures refl
+    (too_short _ _ c.if-reason-gt3.false _ c.reason_of-name.ensures _ c.name_length.ensures
+    c.if-area-name_length.true)
 
-write_reason_requires : tie.Need-write-reason-requires
-write_reason_requires c κs = rw c.before.before.name-length.ensures at c.before.if2.false
-
-returns_3 : tie.Need-returns-3
-returns_3 c =
-    let writing = c.before.before.before in
-    let counts = writing.before.before.before in
-    area_is c.done.ensures writing.write-reason.ensures.1
-    (writes _ _ counts.before.before.if1.false _ counts.before.reason-of.ensures _ counts.name-length.ensures
-    writing.before.before.if2.false _ writing.write-reason.ensures.0)
-
-pub write-reason-spec : {M : Type 1} → statement M
-write-reason-spec =
-    tie.close
-    (tie.spec (λ c κs. search rules) returns (λ c κs. search rules) (λ c κs. search rules) (λ c κs. search rules) returns_2
-    write_reason_requires (λ c κs. search rules) (λ c. search rules) returns_3)
+pub returns : goal.returns
+returns c =
+    area_is c.done.ensures c.write_reason.ensures.1
+    (writes _ _ c.if-reason-gt3.false _ c.reason_of-name.ensures _ c.name_length.ensures
+    c.if-area-name_length.false _ c.write_reason.ensures.0)

@@ -23,8 +23,7 @@ use Rattle.world.specs.Regions.{registry, view}
 use Rattle.world.specs.Sound.{SoundAt}
 use Rattle.world.specs.declared.Numbers.{Numbers}
 use Rattle.revocation_reads.specs.Calls.{descendants}
-use Rattle.revocation_reads.proofs.list_under.Statement.{statement}
-use Rattle.revocation_reads.proofs.list_under.Tie as tie
+use Rattle.revocation_reads.proofs.list_under.Goals as goal
 
 -- All but the first.
 rest_of : (n : ℕ) (xs : List ℕ) → drop 1 (take n xs) ≡ take (n - 1) (drop 1 xs)
@@ -87,63 +86,27 @@ module _ (d : Numbers) (mem : List ℕ) (r : ℕ) (order : List ℕ) (count : �
       into_fits (descendants d mem r) area (count - 1) how_many l
       ∙ ap {B = WithArea} (λ xs. record { reply = done (count - 1); area = written xs area }) is_under
 
-descend_requires : tie.Need-descend-requires
-descend_requires c κs =
-    let (sound, below) = c.before.before.before.requires in
-    ((ready_at _ _ sound, below, omega (arith, sound.registered_fit, sound.in_range.places)), sound.linked)
+pub descend-count-requires-clause-ready : goal.descend-count-requires-clause-ready
+descend-count-requires-clause-ready c =
+    let (sound, below) = c.requires in (ready_at _ _ sound, below, omega (arith, sound.registered_fit, sound.in_range.places))
 
-sub_if1 : tie.Need-overflow-sub-if1
-sub_if1 c =
-    let call = c.before in
-    some _ _ _ _ _ (finds _ _ _ _ _ call.before.before.before.before.requires c.order2.given call.descend.ensures)
+pub overflow_sub-count : goal.overflow_sub-count
+overflow_sub-count c = search (rules, rest_of, rest_below, finds, under, some, under_length, under_below, is_under, how_many, too_short, lists, ids_at-length, descent_first, into_short, into_fits, ready_at, area_is)
 
-returns : tie.Need-returns
-returns c =
-    let call = c.before.before.before in
-    let begun = call.before.before.before.before in
-    area_is c.refusal.ensures refl
-    (too_short _ _ _ _ _ (finds _ _ _ _ _ begun.requires c.before.before.order2.given call.descend.ensures) _
-    c.before.if1.true)
+pub returns-then-area-count : goal.returns-then-area-count
+returns-then-area-count c = search (rules, rest_of, rest_below, finds, under, some, under_length, under_below, is_under, how_many, too_short, lists, ids_at-length, descent_first, into_short, into_fits, ready_at, area_is)
 
-sub_ids_at : tie.Need-overflow-sub-ids-at
-sub_ids_at c =
-    let call = c.before.before in
-    some _ _ _ _ _ (finds _ _ _ _ _ call.before.before.before.before.requires c.before.order2.given call.descend.ensures)
+pub slice_bounds-ids_at-count : goal.slice_bounds-ids_at-count
+slice_bounds-ids_at-count c = search (rules, rest_of, rest_below, finds, under, some, under_length, under_below, is_under, how_many, too_short, lists, ids_at-length, descent_first, into_short, into_fits, ready_at, area_is)
 
-part-ids_at_start : tie.Need-slice-bounds-ids-at-start
-part-ids_at_start c =
-    let call = c.before.before.before in
-    let begun = call.before.before.before.before in
-    omega (arith, some _ _ _ _ _ (finds _ _ _ _ _ begun.requires c.before.before.order2.given call.descend.ensures))
+pub slice_bounds-ids_at-start : goal.slice_bounds-ids_at-start
+slice_bounds-ids_at-start c = search (rules, rest_of, rest_below, finds, under, some, under_length, under_below, is_under, how_many, too_short, lists, ids_at-length, descent_first, into_short, into_fits, ready_at, area_is)
 
-ids_at_requires : tie.Need-ids-at-requires
-ids_at_requires c κs =
-    let call = c.before.before.before.before.before in
-    let begun = call.before.before.before.before in
-    let at = finds _ _ _ _ _ begun.requires c.before.before.before.before.order2.given call.descend.ensures in (
-      ((ready_at _ _ begun.requires.0).fits, omega (arith, under_length _ _ _ _ _ at, c.before.before.before.if1.false)),
-      under_below _ _ _ _ _ at,
-    )
+pub ids_at-requires-clause-all_below : goal.ids_at-requires-clause-all_below
+ids_at-requires-clause-all_below c = search (rules, rest_of, rest_below, finds, under, some, under_length, under_below, is_under, how_many, too_short, lists, ids_at-length, descent_first, into_short, into_fits, ready_at, area_is)
 
-sub_done : tie.Need-overflow-sub-done
-sub_done c =
-    let call = c.before.before.before.before.before.before.before.before in
-    some _ _ _ _ _
-    (finds _ _ _ _ _ call.before.before.before.before.requires c.before.before.before.before.before.before.before.order2.given
-    call.descend.ensures)
+pub overflow_sub-count-2 : goal.overflow_sub-count-2
+overflow_sub-count-2 c = search (rules, rest_of, rest_below, finds, under, some, under_length, under_below, is_under, how_many, too_short, lists, ids_at-length, descent_first, into_short, into_fits, ready_at, area_is)
 
-returns_2 : tie.Need-returns-2
-returns_2 c =
-    let writes = c.before.before.before in
-    let fits = writes.before.before.before.before in
-    let call = fits.before.before in
-    area_is c.done.ensures writes.ids_at.ensures
-    (lists _ _ _ _ _
-    (finds _ _ _ _ _ call.before.before.before.before.requires fits.before.order2.given call.descend.ensures) _
-    fits.if1.false)
-
-pub list-under-spec : {M : Type 1} → statement M
-list-under-spec =
-    tie.close
-    (tie.spec (λ c. search rules) descend_requires sub_if1 (λ c κs. search rules) returns sub_ids_at part-ids_at_start (λ c. search rules)
-    ids_at_requires sub_done (λ c κs. search rules) (λ c. search rules) returns_2)
+pub returns : goal.returns
+returns c = search (rules, rest_of, rest_below, finds, under, some, under_length, under_below, is_under, how_many, too_short, lists, ids_at-length, descent_first, into_short, into_fits, ready_at, area_is)

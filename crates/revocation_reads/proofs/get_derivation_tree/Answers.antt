@@ -1,5 +1,4 @@
 -- Entered, an id too large is refused; those under the id's place are listed, and none where the id has no place.
-use borrow.Author.Rules.{rules}
 use mathlib.Core.List.{List, []}
 use mathlib.Core.Path.{◌≡◌, refl, sym, ap, ◌∙◌}
 use Prim.Native.Nat.{ℕ, ◌^◌, ◌<◌, ◌≤◌}
@@ -19,8 +18,7 @@ use Rattle.steps.specs.declared.Entered.TheVariants.{Good}
 use Rattle.world.specs.Numbers.{registered_of}
 use Rattle.world.specs.declared.Numbers.{Numbers}
 use Rattle.revocation_reads.specs.Calls.{descendants, descendants_out}
-use Rattle.revocation_reads.proofs.get_derivation_tree.Statement.{statement}
-use Rattle.revocation_reads.proofs.get_derivation_tree.Tie as tie
+use Rattle.revocation_reads.proofs.get_derivation_tree.Goals as goal
 
 none_listed : (area : List ℕ) → into_area [] area ≡ record { reply = done 0; area = area }
 unfolding into_area written
@@ -43,51 +41,36 @@ module _ (mem : List ℕ) (r : Entered) (seen : r ≡ entered_world mem) (d : Nu
     none : registered_of mem ≤ k → descendants_out mem id area ≡ record { reply = done 0; area = area }
     none over = lists ∙ rw (le-ltb k (registered_of mem) over) (none_listed area)
 
-place_of_requires : tie.Need-place-of-requires
-place_of_requires c κs =
-    let seen = c.before.before in
-    world_ready _ _ seen.before.before.enter-world.ensures _ seen.d.given.1
+pub returns-then-id-ge281474976710656 : goal.returns-then-id-ge281474976710656
+returns-then-id-ge281474976710656 c =
+    area_is c.refusal-then-id-ge281474976710656.ensures refl
+    (too_large _ _ c.enter_world.ensures _ c.in-Good.is _ _ c.if-id-ge281474976710656.true)
 
-word_11 : tie.Need-shared-slice-read-if2
-word_11 c =
-    let seen = c.before.before.before.before in
-    omega (arith, (world_ready _ _ seen.before.before.enter-world.ensures _ seen.d.given.1).head)
+pub place_of-r-requires : goal.place_of-r-requires
+place_of-r-requires c =
+    world_ready _ _ c.enter_world.ensures _ c.in-Good.is
 
-list_under_requires : tie.Need-list-under-requires
-list_under_requires c κs =
-    let seen = c.before.before.before.before.before.before in
-    (world_sound _ _ seen.before.before.enter-world.ensures _ seen.d.given.1, c.before.if2.true)
+pub bounds-mem-11 : goal.bounds-mem-11
+bounds-mem-11 c =
+    omega (arith, (world_ready _ _ c.enter_world.ensures _ c.in-Good.is).head)
 
-returns : tie.Need-returns
-returns c =
-    let seen = c.before.before.before in
-    area_is c.refusal2.ensures refl
-    (too_large _ _ seen.before.before.enter-world.ensures _ seen.d.given.1 _ _ c.before.if1.true)
+pub list_under-requires : goal.list_under-requires
+list_under-requires c =
+    (world_sound _ _ c.enter_world.ensures _ c.in-Good.is, c.if-r-mem.true)
 
-returns_2 : tie.Need-returns-2
-returns_2 c =
-    let place = c.before.before.before.before.before.before in
-    let seen = place.before.before.before in
-    let entered = seen.before.before.enter-world.ensures in
-    c.before.before.list-under.ensures
-    ∙ sym (lists _ _ entered _ seen.d.given.1 _ _ place.before.if1.false _ place.place-of.ensures.0)
+pub returns-then-r-mem : goal.returns-then-r-mem
+returns-then-r-mem c =
+    let entered = c.enter_world.ensures in
+    c.list_under.ensures
+    ∙ sym (lists _ _ entered _ c.in-Good.is _ _ c.if-id-ge281474976710656.false _ c.place_of-r.ensures.0)
 
-returns_3 : tie.Need-returns-3
+pub returns-in-Refused : goal.returns-in-Refused
 unfolding descendants_out
-returns_3 c =
-    let seen = c.before.before in
-    area_is c.refusal.ensures refl (world_refusal _ _ seen.before.before.enter-world.ensures _ _ _ seen.answer.given.1)
+returns-in-Refused c =
+    area_is c.refusal.ensures refl (world_refusal _ _ c.enter_world.ensures _ _ _ c.in-Refused.is)
 
-returns_4 : tie.Need-returns-4
-returns_4 c =
-    let place = c.before.before.before in
-    let seen = place.before.before.before in
-    let entered = seen.before.before.enter-world.ensures in
+pub returns-else-r-mem : goal.returns-else-r-mem
+returns-else-r-mem c =
+    let entered = c.enter_world.ensures in
     area_is c.done.ensures refl
-    (none _ _ entered _ seen.d.given.1 _ _ place.before.if1.false _ place.place-of.ensures.0 c.before.if2.false)
-
-pub get-derivation-tree-spec : {M : Type 1} → statement M
-get-derivation-tree-spec =
-    tie.close
-    (tie.spec (λ c κs. search rules) (λ c. search rules) (λ c κs. search rules) (λ c. search rules) (λ c κs. search rules) returns
-    place_of_requires word_11 list_under_requires (λ c. search rules) returns_2 (λ c κs. search rules) returns_3 returns_4)
+    (none _ _ entered _ c.in-Good.is _ _ c.if-id-ge281474976710656.false _ c.place_of-r.ensures.0 c.if-r-mem.false)

@@ -16,8 +16,7 @@ use Rattle.steps.specs.declared.Entered.TheVariants.{Good}
 use Rattle.world.specs.Numbers.{logged_of}
 use Rattle.world.specs.declared.Numbers.{Numbers}
 use Rattle.revocation_reads.specs.Calls.{is_revoked_out}
-use Rattle.revocation_reads.proofs.is_revoked.Statement.{statement}
-use Rattle.revocation_reads.proofs.is_revoked.Tie as tie
+use Rattle.revocation_reads.proofs.is_revoked.Goals as goal
 
 -- By what the code saw, r, and what the log told of the token's low bits.
 told : (mem : List ℕ) (r : Entered) → r ≡ entered_world mem → (d : Numbers) → r ≡ Good d → (token : ℕ) (b v : Bool)
@@ -27,29 +26,24 @@ told mem r seen d good token b v e h =
     ap (λ b. done (one b)) (sym h ∙ e ∙ ap (log_has (logged_of mem) (log_of d mem)) (token_pair token))
     ∙ sym (world_call mem r seen d good _ _)
 
-has_pair_requires : tie.Need-has-pair-requires
-has_pair_requires c κs =
-    let seen = c.before.before in
-    let entered = seen.before.before.enter-world.ensures in
-    (world_ready _ _ entered _ seen.d.given.1, (world_sound _ _ entered _ seen.d.given.1).logged_fit)
-
-returns : tie.Need-returns
-returns c =
-    let asked = c.before.before in
-    let seen = asked.before.before.before in
-    c.done.ensures
-    ∙ told _ _ seen.before.before.enter-world.ensures _ seen.d.given.1 _ _ _ asked.has-pair.ensures c.before.if1.true
-
-returns_3 : tie.Need-returns-3
-returns_3 c =
-    let asked = c.before.before in
-    let seen = asked.before.before.before in
-    c.done2.ensures
-    ∙ told _ _ seen.before.before.enter-world.ensures _ seen.d.given.1 _ _ _ asked.has-pair.ensures c.before.if1.false
-
-pub is-revoked-spec : {M : Type 1} → statement M
+pub has_pair-requires : goal.has_pair-requires
 unfolding is_revoked_out
-is-revoked-spec =
-    tie.close
-    (tie.spec (λ c κs. search world_calls) (λ c. search world_calls) (λ c κs. search world_calls) (λ c. search world_calls)
-    has_pair_requires (λ c κs. search world_calls) returns (λ c κs. search world_calls) (λ c. search world_calls) returns_3)
+has_pair-requires c =
+    let entered = c.enter_world.ensures in
+    (world_ready _ _ entered _ c.in-Good.is, (world_sound _ _ entered _ c.in-Good.is).logged_fit)
+
+pub returns-then-has_pair : goal.returns-then-has_pair
+unfolding is_revoked_out
+returns-then-has_pair c =
+    c.done.ensures
+    ∙ told _ _ c.enter_world.ensures _ c.in-Good.is _ _ _ c.has_pair.ensures c.if-has_pair.true
+
+pub returns-in-Refused : goal.returns-in-Refused
+unfolding is_revoked_out
+returns-in-Refused c = search world_calls
+
+pub returns-else-has_pair : goal.returns-else-has_pair
+unfolding is_revoked_out
+returns-else-has_pair c =
+    c.done-in-Good.ensures
+    ∙ told _ _ c.enter_world.ensures _ c.in-Good.is _ _ _ c.has_pair.ensures c.if-has_pair.false
