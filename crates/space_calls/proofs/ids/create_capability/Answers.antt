@@ -1,5 +1,4 @@
 -- Entered, an id is taken, and a token of it inserted.
-use borrow.Author.Rules.{rules}
 use mathlib.Core.List.{List}
 use mathlib.Core.Path.{◌≡◌, sym, ap₂, ◌∙◌}
 use Prim.Native.Nat.{ℕ}
@@ -11,8 +10,7 @@ use Rattle.steps.specs.declared.Reply.{Reply}
 use Rattle.steps.specs.declared.Taken.{Taken}
 use Rattle.world.specs.declared.Numbers.{Numbers}
 use Rattle.space_calls.specs.Calls.{create_taken, create_out}
-use Rattle.space_calls.proofs.ids.create_capability.Statement.{statement}
-use Rattle.space_calls.proofs.ids.create_capability.Tie as tie
+use Rattle.space_calls.proofs.ids.create_capability.Goals as goal
 
 -- By what the code took, t, and the memory that it left.
 takes :
@@ -24,17 +22,24 @@ takes d mem after leaves t seen is is_seen s rights object out told =
 
 ruleset laws = (enters, takes)
 
-create_with_requires : tie.Need-create-with-requires
-create_with_requires c κs =
-    let call = c.before.before.before.before.before.before in
-    let seen = call.before.before.before in
-    let (ready, there) = space_ready _ _ _ seen.before.before.enter-space.ensures _ seen.d.given.1 in
-    (rw call.take-id.ensures.0 (ready_take _ _ ready), there)
-
-pub create-capability-spec : {M : Type 1} → statement M
+pub take_id-requires : goal.take_id-requires
 unfolding create_out
-create-capability-spec =
-    tie.close
-    (tie.spec (λ c κs. search rules) (λ c. search rules) (λ c κs. search rules) (λ c. search rules) (λ c κs. search enters)
-    (λ c. search rules) create_with_requires (λ c. search rules) (λ c κs. search rules) (λ c. search rules) (λ c. search enters)
-    (λ c. search rules) (λ c. search laws depth 8) (λ c. search rules) (λ c. search laws depth 8))
+take_id-requires c = search enters
+
+pub create_with-requires : goal.create_with-requires
+unfolding create_out
+create_with-requires c =
+    let (ready, there) = space_ready _ _ _ c.enter_space.ensures _ c.in-Good.is in
+    (rw c.take_id.ensures.mem_after (ready_take _ _ ready), there)
+
+pub returns-in-Refused : goal.returns-in-Refused
+unfolding create_out
+returns-in-Refused c = search enters
+
+pub returns-in-Id : goal.returns-in-Id
+unfolding create_out
+returns-in-Id c = search laws depth 8
+
+pub returns-in-Exhausted : goal.returns-in-Exhausted
+unfolding create_out
+returns-in-Exhausted c = search laws depth 8
