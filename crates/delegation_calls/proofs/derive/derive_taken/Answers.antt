@@ -1,5 +1,4 @@
 -- The refusals in their order, by the place that was found; then the child is derived.
-use borrow.Author.Rules.{rules}
 use mathlib.Core.Bool.{Bool, true, false, not}
 use mathlib.Core.List.{List}
 use mathlib.Core.Path.{◌≡◌, sym, ap, ◌∙◌}
@@ -14,8 +13,7 @@ use Rattle.token.specs.Token.{id_of}
 use Rattle.world.specs.Numbers.{registered_of}
 use Rattle.world.specs.declared.Numbers.{Numbers}
 use Rattle.delegation_calls.specs.Delegation.{derived_with}
-use Rattle.delegation_calls.proofs.derive.derive_taken.Statement.{statement}
-use Rattle.delegation_calls.proofs.derive.derive_taken.Tie as tie
+use Rattle.delegation_calls.proofs.derive.derive_taken.Goals as goal
 
 -- The tests of the definition, by the place p that the code found for the token's id, and what it answered of it.
 module _ (d : Numbers) (token : ℕ) (mem : List ℕ) (own p : ℕ) (named : own ≡ id_of token) (found : p ≡ place_in d mem own) where
@@ -38,10 +36,14 @@ module _ (d : Numbers) (token : ℕ) (mem : List ℕ) (own p : ℕ) (named : own
 
 ruleset laws = (chooses, unregistered, there, looked_at, derives)
 
-pub derive-taken-spec : {M : Type 1} → statement M
-derive-taken-spec =
-    tie.close
-    (tie.spec (λ c. search rules) (λ c κs. search rules) (λ c κs. search rules) (λ c κs. search rules) (λ c. search rules)
-    (λ c. search laws depth 8) (λ c κs. search rules) (λ c κs. search rules) (λ c. search rules) (λ c. search laws depth 8)
-    (λ c κs. search rules) (λ c. search rules) (λ c. search laws depth 8) (λ c κs. search rules) (λ c. search rules)
-    (λ c. search laws depth 8))
+pub returns-then-n-p : goal.returns-then-n-p
+returns-then-n-p c = search laws depth 8
+
+pub returns-then-not-is_current : goal.returns-then-not-is_current
+returns-then-not-is_current c = search laws depth 8
+
+pub returns-then-d-n : goal.returns-then-d-n
+returns-then-d-n c = search laws depth 8
+
+pub returns : goal.returns
+returns c = search laws depth 8

@@ -3,7 +3,6 @@ use mathlib.Core.Bool.{Bool, true, false, not}
 use mathlib.Core.List.{List}
 use mathlib.Core.Path.{◌≡◌, sym, ap, ap₂, ◌∙◌}
 use Prim.Native.Nat.{ℕ, ◌^◌}
-use borrow.Author.Rules.{rules}
 use Rattle.answers.specs.declared.Answer.TheVariants.{InvalidCapability, PermissionDenied}
 use Rattle.base.specs.Choose.{when_yes, when_no}
 use Rattle.space.specs.declared.LookedUp.{LookedUp}
@@ -15,8 +14,7 @@ use Rattle.table.specs.declared.Got.TheVariants.{Entry, Nothing}
 use Rattle.token.specs.Rights.{holds, common}
 use Rattle.world.specs.declared.Numbers.{Numbers}
 use Rattle.delegation_calls.specs.Delegation.{offered, offering, granting}
-use Rattle.delegation_calls.proofs.delegation.delegate_from.Statement.{statement}
-use Rattle.delegation_calls.proofs.delegation.delegate_from.Tie as tie
+use Rattle.delegation_calls.proofs.delegation.delegate_from.Goals as goal
 
 -- By what the code saw, l, of what there was to see.
 module _ (d : Numbers) (target token rights : ℕ) (mem : List ℕ) (looked l : LookedUp) (is : l ≡ looked) where
@@ -36,38 +34,20 @@ module _ (d : Numbers) (target token rights : ℕ) (mem : List ℕ) (looked l : 
         ap₂ (λ derived after. offering d target token derived (offered d target token derived after)) is_common leaves
         ∙ sym (there ∙ when_no _ _ _ (ap not (sym tested) ∙ grant))
 
-offer_or_derive_requires : tie.Need-offer-or-derive-requires
-offer_or_derive_requires c κs =
-    let looks = c.before.before.before.before.before.before.before.before.before.before in
-    let (ready, from_there, valid) = looks.before.before.before.requires in
-    (rw looks.lookup.ensures.0 (ready_lookup _ _ ready _ from_there _), valid)
+pub returns-then-not-contains : goal.returns-then-not-contains
+returns-then-not-contains c =
+    let leaves = c.lookup-l.ensures.mem_after in let is = c.lookup-l.ensures.value in
+    left_is c.refusal-then-not-contains.ensures leaves
+    (denied _ _ _ _ _ _ _ is _ c.in-Entry.is _ c.contains.ensures (ap not c.if-not-contains.true))
 
-returns : tie.Need-returns
-returns c =
-    let tested = c.before.before in
-    let seen = tested.before.before.before in
-    let (leaves, is) = seen.before.before.before.before.lookup.ensures in
-    left_is c.refusal2.ensures leaves
-    (denied _ _ _ _ _ _ _ is _ seen.got.given.1 _ tested.contains.ensures c.before.if1.true)
+pub offer_or_derive-requires : goal.offer_or_derive-requires
+offer_or_derive-requires c =
+    let (ready, from_there, valid) = c.requires in
+    (rw c.lookup-l.ensures.mem_after (ready_lookup _ _ ready _ from_there _), valid)
 
-returns_2 : tie.Need-returns-2
-returns_2 c =
-    let (leaves, is) = c.before.before.before.before.before.lookup.ensures in
-    left_is c.refusal.ensures leaves (absent _ _ _ _ _ _ _ is c.before.enum_told.given.1)
-
-returns_3 : tie.Need-returns-3
-returns_3 c =
-    let call = c.before.before in
-    let tested = call.before.before.before.before in
-    let seen = tested.before.before.before in
-    let (leaves, is) = seen.before.before.before.before.lookup.ensures in
-    call.offer-or-derive.ensures
-    ∙ granted _ _ _ _ _ _ _ is _ seen.got.given.1 _ tested.contains.ensures call.before.before.before.if1.false _
-    call.before.intersection.ensures _ leaves
-
-pub delegate-from-spec : {M : Type 1} → statement M
-delegate-from-spec =
-    tie.close
-    (tie.spec (λ c κs. search rules) (λ c. search rules) (λ c κs. search rules) (λ c. search rules) (λ c κs. search rules)
-    (λ c κs. search rules) (λ c. search rules) returns (λ c κs. search rules) offer_or_derive_requires (λ c. search rules) returns_2
-    (λ c. search rules) returns_3)
+pub returns-else-not-contains : goal.returns-else-not-contains
+returns-else-not-contains c =
+    let leaves = c.lookup-l.ensures.mem_after in let is = c.lookup-l.ensures.value in
+    c.offer_or_derive.ensures
+    ∙ granted _ _ _ _ _ _ _ is _ c.in-Entry.is _ c.contains.ensures (ap not c.if-not-contains.false) _
+    c.intersection.ensures _ leaves
