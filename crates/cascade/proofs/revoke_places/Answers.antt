@@ -1,5 +1,4 @@
 -- Each step leaves the memory ready for the next; the last is lent the ids from the second on.
-use borrow.Author.Rules.{rules}
 use mathlib.Core.List.{List}
 use mathlib.Core.Path.{◌≡◌}
 use Prim.Native.Nat.{ℕ, ◌+◌, ◌-◌, ◌%◌, ◌^◌, ◌≤◌}
@@ -16,8 +15,7 @@ use Rattle.steps.proofs.laws.ReadyKept.{Stays, Leaves, add_leaves}
 use Rattle.world.specs.Numbers.{logged_of, epoch_word, revoked_word}
 use Rattle.world.specs.Regions.{registry, on_region}
 use Rattle.world.specs.declared.Numbers.{Numbers}
-use Rattle.cascade.proofs.revoke_places.Statement.{statement}
-use Rattle.cascade.proofs.revoke_places.Tie as tie
+use Rattle.cascade.proofs.revoke_places.Goals as goal
 
 module _ (d : Numbers) (mem order : List ℕ)
     (with_marked : List ℕ) (is_marked : with_marked ≡ on_region d registry (marked d.places order) mem)
@@ -60,36 +58,13 @@ module _ (d : Numbers) (mem order : List ℕ)
             take_all (length ids - 1) (drop 1 ids) (omega (arith, length-drop 1 ids)) in
             rw (← is_marked, ← is_counted, ← is_logged, ← is_epoch, ← whole) is
 
-append_pairs_requires : tie.Need-append-pairs-requires
-append_pairs_requires c κs =
-    let adds = c.before.before.before in
-    let marks = adds.before.before.before.before in
-    let ((ready, queues, inside), (fits, some)) = marks.before.before.before.before.before.before.before.requires in
-    can_log _ _ _ _ marks.mark.ensures _ adds.add.ensures ready inside _ fits
+pub append_pairs-requires : goal.append_pairs-requires
+append_pairs-requires c =
+    let (ready, queues, inside) = c.requires.ready in let (fits, some) = c.requires.pairs_bound in
+    can_log _ _ _ _ c.mark.ensures _ c.add.ensures ready inside _ fits
 
-notify_all_requires : tie.Need-notify-all-requires
-notify_all_requires c κs =
-    let epoch = c.before.before.before.before in
-    let logs = epoch.before.before.before.before in
-    let adds = logs.before.before.before.before in
-    let marks = adds.before.before.before.before in
-    let ((ready, queues, inside), (fits, some)) = marks.before.before.before.before.before.before.before.requires in
-    can_notify _ _ _ _ marks.mark.ensures _ adds.add.ensures _ _ logs.append-pairs.ensures _ epoch.add2.ensures ready queues
+pub notify_all-requires : goal.notify_all-requires
+notify_all-requires c =
+    let (ready, queues, inside) = c.requires.ready in let (fits, some) = c.requires.pairs_bound in
+    can_notify _ _ _ _ c.mark.ensures _ c.add.ensures _ _ c.append_pairs.ensures _ c.add-2.ensures ready queues
     inside fits
-
-returns : tie.Need-returns
-returns c =
-    let notifies = c.before.before in
-    let epoch = notifies.before.before.before.before.before in
-    let logs = epoch.before.before.before.before in
-    let adds = logs.before.before.before.before in
-    let marks = adds.before.before.before.before in
-    let args = marks.before.before.before.before.before.before.before.args in
-    all_done _ _ _ _ marks.mark.ensures _ adds.add.ensures _ _ logs.append-pairs.ensures _ epoch.add2.ensures _
-    args.ids.now args.time _ notifies.notify-all.ensures
-
-pub revoke-places-spec : {M : Type 1} → statement M
-revoke-places-spec =
-    tie.close
-    (tie.spec (λ c κs. search rules) (λ c κs. search rules) append_pairs_requires (λ c κs. search rules) (λ c. search rules)
-    (λ c. search rules) (λ c. search rules) notify_all_requires (λ c. search rules) returns)
