@@ -7,8 +7,7 @@ use Rattle.answers.specs.Number.{number_of}
 use Rattle.answers.specs.declared.Answer.{Answer}
 use Rattle.world.specs.Open.{OpenOut}
 use Rattle.host_spaces.specs.Worlds.{numbered}
-use Rattle.host_spaces.proofs.worlds.stonespry_open.Statement.{statement}
-use Rattle.host_spaces.proofs.worlds.stonespry_open.Tie as tie
+use Rattle.host_spaces.proofs.worlds.stonespry_open.Goals as goal
 
 as_number : (answer : Answer) (n : ℕ) (memory : List ℕ) (left : OpenOut) → record { answer = answer; memory = memory } ≡ left
     → n ≡ number_of answer → record { answer = n; memory = memory } ≡ numbered left
@@ -17,7 +16,5 @@ as_number answer n memory left opened number = rw number (ap numbered opened)
 
 ruleset laws = (rules, as_number)
 
-pub stonespry-open-spec : {M : Type 1} → statement M
-stonespry-open-spec =
-    tie.close
-    (tie.spec (λ c κs. search laws) (λ c κs. search laws) (λ c. search laws) (λ c. search laws))
+pub returns : goal.returns
+returns c = search laws
