@@ -6,8 +6,7 @@ use Rattle.steps.proofs.WorldCalls.{world_calls}
 use Rattle.steps.specs.Replies.{Left}
 use Rattle.steps.specs.declared.Reply.{Reply}
 use Rattle.revocation_calls.specs.Calls.{revoke_batch_out}
-use Rattle.revocation_calls.proofs.revoke_batch.Statement.{statement}
-use Rattle.revocation_calls.proofs.revoke_batch.Tie as tie
+use Rattle.revocation_calls.proofs.revoke_batch.Goals as goal
 
 -- The reply is made of what the tokens gave.
 replies :
@@ -17,11 +16,22 @@ replies r r' mem out is left = ap (λ r. record { reply = r; memory = mem }) is 
 
 ruleset laws = (world_calls, replies)
 
-pub revoke-batch-spec : {M : Type 1} → statement M
+pub returns-then-tokens-gt65535 : goal.returns-then-tokens-gt65535
 unfolding revoke_batch_out
-revoke-batch-spec =
-    tie.close
-    (tie.spec (λ c κs. search world_calls) (λ c. search world_calls) (λ c κs. search world_calls) (λ c. search world_calls)
-    (λ c κs. search world_calls) (λ c. search world_calls) (λ c. search world_calls) (λ c κs. search world_calls) (λ c. search world_calls)
-    (λ c. search world_calls) (λ c κs. search world_calls) (λ c κs. search world_calls) (λ c. search world_calls) (λ c. search world_calls)
-    (λ c. search world_calls) (λ c. search laws depth 7))
+returns-then-tokens-gt65535 c = search world_calls
+
+pub returns-then-listed-gt32 : goal.returns-then-listed-gt32
+unfolding revoke_batch_out
+returns-then-listed-gt32 c = search world_calls
+
+pub revoke_each-requires : goal.revoke_each-requires
+unfolding revoke_batch_out
+revoke_each-requires c = search world_calls
+
+pub returns-in-Refused : goal.returns-in-Refused
+unfolding revoke_batch_out
+returns-in-Refused c = search world_calls
+
+pub returns-else-listed-gt32 : goal.returns-else-listed-gt32
+unfolding revoke_batch_out
+returns-else-listed-gt32 c = search laws depth 7

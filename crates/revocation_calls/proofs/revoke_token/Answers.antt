@@ -18,8 +18,7 @@ use Rattle.world.specs.Sound.{SoundAt}
 use Rattle.world.specs.declared.Numbers.{Numbers}
 use Rattle.cascade.specs.Cascade.{revoking}
 use Rattle.revocation_calls.specs.Revoking.{logging_token, revoking_token}
-use Rattle.revocation_calls.proofs.revoke_token.Statement.{statement}
-use Rattle.revocation_calls.proofs.revoke_token.Tie as tie
+use Rattle.revocation_calls.proofs.revoke_token.Goals as goal
 
 -- By the place r that the code found for the id.
 module _ (d : Numbers) (mem : List ℕ) (token time : ℕ) (listed : List ℕ) (id r : ℕ) (is_id : id ≡ id_of token)
@@ -45,8 +44,14 @@ in_head d mem sound i l = omega (arith, (ready_at d mem sound).head)
 
 ruleset laws = (rules, ready_at, in_head, registered, unregistered)
 
-pub revoke-token-spec : {M : Type 1} → statement M
-revoke-token-spec =
-    tie.close
-    (tie.spec (λ c κs. search laws) (λ c κs. search laws) (λ c. search laws) (λ c κs. search laws) (λ c. search laws) (λ c. search laws)
-    (λ c κs. search laws) (λ c. search laws) (λ c. search laws))
+pub place_of-r-requires : goal.place_of-r-requires
+place_of-r-requires c = search laws
+
+pub bounds-mem-11 : goal.bounds-mem-11
+bounds-mem-11 c = search laws
+
+pub returns-then-r-mem : goal.returns-then-r-mem
+returns-then-r-mem c = search laws
+
+pub returns : goal.returns
+returns c = search laws

@@ -15,8 +15,7 @@ use Rattle.table.specs.declared.Got.TheVariants.{Entry, Nothing}
 use Rattle.token.specs.Rights.{REVOKE, holds}
 use Rattle.world.specs.declared.Numbers.{Numbers}
 use Rattle.revocation_calls.specs.Revoking.{revoking_token, revoking_held}
-use Rattle.revocation_calls.proofs.revoke_looked_up.Statement.{statement}
-use Rattle.revocation_calls.proofs.revoke_looked_up.Tie as tie
+use Rattle.revocation_calls.proofs.revoke_looked_up.Goals as goal
 
 module _ (d : Numbers) (token time : ℕ) (listed mem : List ℕ) (got : Got) (visits : ℕ) (out : Left Reply) where
   absent :
@@ -42,8 +41,8 @@ module _ (d : Numbers) (token time : ℕ) (listed mem : List ℕ) (got : Got) (v
 
 ruleset laws = (rules, left_both, absent, denied, allowed)
 
-pub revoke-looked-up-spec : {M : Type 1} → statement M
-revoke-looked-up-spec =
-    tie.close
-    (tie.spec (λ c. search laws) (λ c κs. search laws) (λ c. search laws) (λ c κs. search laws) (λ c κs. search laws) (λ c. search laws)
-    (λ c κs. search laws) (λ c κs. search laws) (λ c. search laws) (λ c. search laws) (λ c. search laws))
+pub returns-then-not-contains : goal.returns-then-not-contains
+returns-then-not-contains c = search laws
+
+pub returns-else-not-contains : goal.returns-else-not-contains
+returns-else-not-contains c = search laws

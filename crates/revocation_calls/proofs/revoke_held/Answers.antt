@@ -18,8 +18,7 @@ use Rattle.world.specs.Sound.{SoundAt}
 use Rattle.world.specs.declared.Numbers.{Numbers}
 use Rattle.revocation_calls.specs.Calls.{revoke_held_out}
 use Rattle.revocation_calls.specs.Revoking.{revoking_held}
-use Rattle.revocation_calls.proofs.revoke_held.Statement.{statement}
-use Rattle.revocation_calls.proofs.revoke_held.Tie as tie
+use Rattle.revocation_calls.proofs.revoke_held.Goals as goal
 
 module _ (mem : List ℕ) (s : ℕ) (d : Numbers) (token : ℕ) (after : List ℕ) (leaves : after ≡ lookup_step d s token mem) where
   still_sound : (r : Entered) → r ≡ entered_space mem s → r ≡ Good d → SoundAt d after
@@ -39,10 +38,22 @@ module _ (mem : List ℕ) (s : ℕ) (d : Numbers) (token : ℕ) (after : List �
 
 ruleset laws = (rules, enters, chooses, still_sound, decides)
 
-pub revoke-held-spec : {M : Type 1} → statement M
+pub returns-then-listed-gt32 : goal.returns-then-listed-gt32
 unfolding revoke_held_out
-revoke-held-spec =
-    tie.close
-    (tie.spec (λ c κs. search laws) (λ c. search laws) (λ c κs. search laws) (λ c. search laws) (λ c κs. search laws) (λ c. search laws)
-    (λ c. search laws) (λ c κs. search laws) (λ c κs. search laws) (λ c. search laws) (λ c. search laws) (λ c. search laws)
-    (λ c. search laws))
+returns-then-listed-gt32 c = search laws
+
+pub lookup-l-requires : goal.lookup-l-requires
+unfolding revoke_held_out
+lookup-l-requires c = search laws
+
+pub revoke_looked_up-requires : goal.revoke_looked_up-requires
+unfolding revoke_held_out
+revoke_looked_up-requires c = search laws
+
+pub returns-in-Refused : goal.returns-in-Refused
+unfolding revoke_held_out
+returns-in-Refused c = search laws
+
+pub returns-else-listed-gt32 : goal.returns-else-listed-gt32
+unfolding revoke_held_out
+returns-else-listed-gt32 c = search laws

@@ -4,7 +4,6 @@ use mathlib.Core.Logic.{◌≢◌}
 use mathlib.Core.Path.{◌≡◌, refl, ap}
 use Prim.Native.Nat.{ℕ, ◌+◌, ◌-◌, ◌<◌, ◌≤◌}
 use native.Mathlib.Omega.{arith}
-use borrow.Author.Rules.{rules}
 use borrow.Author.Tests.{eq-eqb, ne_eqb}
 use lib.Dec.{eqb}
 use lib.ListN.{length, get_or, drop, drop_of_length-le}
@@ -17,26 +16,25 @@ use Rattle.world.specs.Sound.{SoundAt}
 use Rattle.world.specs.declared.Numbers.{Numbers}
 use Rattle.revocation_calls.specs.Revoking.{revoking_token, revoking_each}
 use Rattle.revocation_calls.proofs.laws.Kept.{revoking_token_kept}
-use Rattle.revocation_calls.proofs.revoke_each.Statement.{statement}
-use Rattle.revocation_calls.proofs.revoke_each.Tie as tie
+use Rattle.revocation_calls.proofs.revoke_each.Given as goal
 
 module _ (d : Numbers) (tokens : List ℕ) (time : ℕ) (listed mem₀ : List ℕ) where
-  record Revoking (mem : List ℕ) (j gave : ℕ) : Type 0 where
-    sound : SoundAt d mem
-    few : gave ≤ j
-    left : revoking_each d (drop j tokens) time listed gave mem ≡ revoking_each d tokens time listed 0 mem₀
+  pub record Revoking (mem : List ℕ) (j gave : ℕ) : Type 0 where
+    pub sound : SoundAt d mem
+    pub few : gave ≤ j
+    pub left : revoking_each d (drop j tokens) time listed gave mem ≡ revoking_each d tokens time listed 0 mem₀
 
-  starts : SoundAt d mem₀ → Revoking mem₀ 0 0
+  pub starts : SoundAt d mem₀ → Revoking mem₀ 0 0
   starts sound = record { sound = sound; few = omega arith; left = refl }
 
   module _ (mem : List ℕ) (j gave : ℕ) (revoking : Revoking mem j gave) where
-    still_sound : SoundAt d mem
+    pub still_sound : SoundAt d mem
     still_sound = revoking.sound
 
-    gave_few : gave ≤ j
+    pub gave_few : gave ≤ j
     gave_few = revoking.few
 
-    ends : length tokens ≤ j → record { reply = done gave; memory = mem } ≡ revoking_each d tokens time listed 0 mem₀
+    pub ends : length tokens ≤ j → record { reply = done gave; memory = mem } ≡ revoking_each d tokens time listed 0 mem₀
     unfolding revoking_each
     ends u = rw (drop_of_length-le tokens u) at revoking.left
 
@@ -45,7 +43,7 @@ module _ (d : Numbers) (tokens : List ℕ) (time : ℕ) (listed mem₀ : List �
         (is : record { reply = reply; memory = after } ≡ revoking_token d (get_or tokens j 0) time listed mem)
         (n : ℕ) (number : n ≡ number_of reply.answer)
       where
-        goes : (more : ℕ) → more ≡ gave + one (eqb n 0) → more ≤ j + 1 → Revoking after (j + 1) more
+        pub goes : (more : ℕ) → more ≡ gave + one (eqb n 0) → more ≤ j + 1 → Revoking after (j + 1) more
         unfolding revoking_each
         goes more counts below =
             let replies = ap (λ (left : Left Reply). left.reply) is in
@@ -56,24 +54,15 @@ module _ (d : Numbers) (tokens : List ℕ) (time : ℕ) (listed mem₀ : List �
               left = rw (counts, number, replies, leaves) (rw (drop_next tokens j l) at revoking.left);
             }
 
-        gives_0 : n ≡ 0 → Revoking after (j + 1) (gave + 1)
+        pub gives_0 : n ≡ 0 → Revoking after (j + 1) (gave + 1)
         gives_0 is_0 = goes (gave + 1) (rw (eq-eqb n 0 is_0)) (omega (arith, revoking.few))
 
-        refuses : n ≢ 0 → Revoking after (j + 1) gave
+        pub refuses : n ≢ 0 → Revoking after (j + 1) gave
         refuses other = goes gave (rw (ne_eqb n 0 other) (omega arith)) (omega (arith, revoking.few))
 
-abbrev invariant-loop : tie.invariant-loop
-invariant-loop mem₀ d tokens time listed gave₀ j₀ mem gave j =
-    (j ≤ length tokens) × (length mem ≡ length mem₀) × Revoking d tokens time listed mem₀ mem j gave
+abbrev pub invariant-loop-j : goal.invariant-loop-j
+invariant-loop-j l =
+    (l.j ≤ length l.tokens) × (length l.mem ≡ length l.initial.mem) × Revoking l.d l.tokens l.time l.listed l.initial.mem l.mem l.j l.gave
 
-abbrev decreases-loop : tie.decreases-loop
-decreases-loop mem₀ d tokens time listed gave₀ j₀ mem gave j = length tokens - j
-
-ruleset laws = (rules, starts, still_sound, gave_few, ends, gives_0, refuses)
-
-pub revoke-each-spec : {M : Type 1} → statement M
-revoke-each-spec =
-    tie.close
-    (tie.spec invariant-loop decreases-loop (λ c. search laws) (λ c. search laws) (λ c. search laws) (λ c κs. search laws) (λ c. search laws)
-    (λ c κs. search laws) (λ c. search laws) (λ c. search laws) (λ c. search laws) (λ c. search laws) (λ c. search laws) (λ c. search laws)
-    (λ c. search laws))
+abbrev pub decreases-loop-j : goal.decreases-loop-j
+decreases-loop-j l = length l.tokens - l.j

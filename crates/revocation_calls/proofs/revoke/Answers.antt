@@ -14,8 +14,7 @@ use Rattle.world.specs.Numbers.{registered_of}
 use Rattle.world.specs.declared.Numbers.{Numbers}
 use Rattle.revocation_calls.specs.Calls.{revoke_out}
 use Rattle.cascade.specs.Cascade.{revoking}
-use Rattle.revocation_calls.proofs.revoke.Statement.{statement}
-use Rattle.revocation_calls.proofs.revoke.Tie as tie
+use Rattle.revocation_calls.proofs.revoke.Goals as goal
 
 -- By the place k that the code found for the id.
 module _ (d : Numbers) (mem : List ℕ) (token id k : ℕ) (is_id : id ≡ id_of token) (is_place : k ≡ place_in d mem id) where
@@ -35,10 +34,30 @@ module _ (d : Numbers) (mem : List ℕ) (token id k : ℕ) (is_id : id ≡ id_of
 
 ruleset laws = (world_calls, not_registered, registered, revokes)
 
-pub revoke-spec : {M : Type 1} → statement M
+pub returns-then-listed-gt32 : goal.returns-then-listed-gt32
 unfolding revoke_out
-revoke-spec =
-    tie.close
-    (tie.spec (λ c κs. search laws) (λ c. search laws) (λ c κs. search laws) (λ c. search laws) (λ c κs. search laws) (λ c. search laws)
-    (λ c. search laws) (λ c κs. search laws) (λ c κs. search laws) (λ c. search laws) (λ c κs. search laws) (λ c. search laws)
-    (λ c. search laws) (λ c κs. search laws) (λ c. search laws) (λ c. search laws) (λ c. search laws) (λ c. search laws))
+returns-then-listed-gt32 c = search laws
+
+pub place_of-r-requires : goal.place_of-r-requires
+unfolding revoke_out
+place_of-r-requires c = search laws
+
+pub bounds-mem-11 : goal.bounds-mem-11
+unfolding revoke_out
+bounds-mem-11 c = search laws
+
+pub returns-then-mem-r : goal.returns-then-mem-r
+unfolding revoke_out
+returns-then-mem-r c = search laws
+
+pub revoke_at-requires : goal.revoke_at-requires
+unfolding revoke_out
+revoke_at-requires c = search laws
+
+pub returns-in-Refused : goal.returns-in-Refused
+unfolding revoke_out
+returns-in-Refused c = search laws
+
+pub returns-else-mem-r : goal.returns-else-mem-r
+unfolding revoke_out
+returns-else-mem-r c = search laws
