@@ -16,6 +16,7 @@ use Rattle.steps.specs.declared.Reply.{Reply}
 use Rattle.world.specs.Layout.{stream_length}
 use Rattle.world.specs.Numbers.{in_range_test}
 use Rattle.world.specs.Open as world
+use Rattle.world.proofs.OpenTold.{opening_0}
 use Rattle.world.specs.Regions.{length_for}
 use Rattle.request_run.specs.Run.{numbers, quotas, whole_run, lines_for, laid_out, run_out, program_world, program_lines}
 
@@ -30,7 +31,7 @@ pub run_given_room :
     → run_out bytes mem area ≡ laid_out (whole_run bytes (world.opened numbers quotas mem)) area
 unfolding run_out
 run_given_room bytes mem area long fits =
-    let is = world.opening_0 numbers quotas mem numbers_good long in
+    let is = opening_0 numbers quotas mem numbers_good long in
     when_no _ _ _ (le-ltb (length area) (28 * lines_for (length bytes)) fits)
     ∙ when_no _ _ _ (ap (λ (o : world.OpenOut). not (eqb (number_of o.answer) 0)) is)
     ∙ ap (λ (o : world.OpenOut). laid_out (whole_run bytes o.memory) area) is
