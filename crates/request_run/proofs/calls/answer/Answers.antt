@@ -11,8 +11,7 @@ use Rattle.request.specs.declared.Verdict.{Verdict}
 use Rattle.request.specs.declared.Verdict.TheVariants.{Good, Refused}
 use Rattle.request.specs.Reading.{verdict_of}
 use Rattle.request_run.specs.Run.{called, judged, answered}
-use Rattle.request_run.proofs.calls.answer.Statement.{statement}
-use Rattle.request_run.proofs.calls.answer.Tie as tie
+use Rattle.request_run.proofs.calls.answer.Goals as goal
 
 module _ (r : Request) (mem : List ℕ) (v : Verdict) (seen : v ≡ verdict_of r 4) where
   refuses : (a : Answer) (reply : Reply) → v ≡ Refused a → reply ≡ refusal a → record { reply = reply; memory = mem } ≡ answered r mem
@@ -26,8 +25,8 @@ module _ (r : Request) (mem : List ℕ) (v : Verdict) (seen : v ≡ verdict_of r
 
 ruleset laws = (rules, refuses, makes)
 
-pub answer-spec : {M : Type 1} → statement M
-answer-spec =
-    tie.close
-    (tie.spec (λ c κs. search laws) (λ c. search laws) (λ c κs. search laws) (λ c. search laws) (λ c κs. search laws) (λ c. search laws)
-    (λ c. search laws) (λ c. search laws))
+pub returns-in-Refused : goal.returns-in-Refused
+returns-in-Refused c = search laws
+
+pub returns-in-Good : goal.returns-in-Good
+returns-in-Good c = search laws

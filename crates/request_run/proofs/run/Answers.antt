@@ -18,8 +18,7 @@ use Rattle.steps.specs.declared.Reply.{Reply}
 use Rattle.world.specs.Open as world
 use Rattle.request.specs.Laid.{laid_front}
 use Rattle.request_run.specs.Run.{Ran, numbers, quotas, whole_run, lines_for, unwritten, laid_out, run_out}
-use Rattle.request_run.proofs.run.Statement.{statement}
-use Rattle.request_run.proofs.run.Tie as tie
+use Rattle.request_run.proofs.run.Goals as goal
 
 -- A reply, an area and a memory.
 abbrev all : Reply → List ℕ → List ℕ → Left WithArea
@@ -82,9 +81,11 @@ all_written bytes mem last area longer behind reply ran told = omega (arith, ap 
 
 ruleset laws = (rules, refuses_area, refuses_open, runs, none_written, all_written)
 
-pub run_spec : {M : Type 1} → statement M
-run_spec =
-    tie.close
-    (tie.spec (λ c κs. search laws) (λ c. search laws) (λ c κs. search laws) (λ c. search laws) (λ c. search laws) (λ c κs. search laws)
-    (λ c κs. search laws) (λ c κs. search laws) (λ c. search laws) (λ c. search laws) (λ c κs. search laws) (λ c κs. search laws)
-    (λ c. search laws) (λ c. search laws) (λ c. search laws))
+pub returns-then-lines-lines_for-clause-mem_after : goal.returns-then-lines-lines_for-clause-mem_after
+returns-then-lines-lines_for-clause-mem_after c = search laws
+
+pub returns-then-number-ne0-clause-mem_after : goal.returns-then-number-ne0-clause-mem_after
+returns-then-number-ne0-clause-mem_after c = search laws
+
+pub returns-clause-mem_after : goal.returns-clause-mem_after
+returns-clause-mem_after c = search laws
