@@ -41,6 +41,7 @@ c_link() { # OUT FILE...
     local out=$1 lib=$toolchain/lib
     shift
     if [ $c_way = cc ]; then cc -o "$out" "$@"; return; fi
-    "$toolchain/bin/ld.lld" -pie -dynamic-linker /lib64/ld-linux-x86-64.so.2 -o "$out" "$lib/Scrt1.o" "$lib/crti.o" "$lib/crtbeginS.o" "$@" \
+    "$toolchain/bin/ld.lld" -pie -dynamic-linker /lib64/ld-linux-x86-64.so.2 -o "$out" \
+        "$lib/Scrt1.o" "$lib/crti.o" "$lib/crtbeginS.o" "$@" \
         "$lib/libc.so.6" "$lib/libc_nonshared.a" "$lib/libgcc.a" "$lib/crtendS.o" "$lib/crtn.o"
 }
