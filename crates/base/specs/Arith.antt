@@ -1,8 +1,8 @@
 -- The least power of two at or above a number, with the facts that single it out.
 use Rattle.std.specs.Prelude.{◌≡◌, refl, Bool, ℕ, zero, suc, ◌*◌, ◌^◌, ◌<◌, ◌≤◌, leb}
 use Rattle.std.proofs.Common.{⊎_elim, le_antisymm, eq-or-lt_of_le, arith, leb-true, le-leb, pow_mono}
-use Rattle.std.proofs.Math.Logic.{by_cases}
 use Rattle.std.proofs.Math.Decide.{dec_lt}
+use Rattle.std.proofs.Math.Logic.{by_cases}
 use Rattle.base.specs.Below.{first}
 use Rattle.base.specs.FirstLaws.{first-le, first_passes, first-le_of}
 

@@ -1,9 +1,9 @@
 -- Walking around c places: from place h the t-th step stands at (h + t) % c. Once around meets each place once.
 use Rattle.std.specs.Prelude.{◌≡◌, ◌⊎◌, ℕ, ◌+◌, ◌-◌, ◌%◌, ◌<◌, ◌≤◌}
 use Rattle.std.proofs.Common.{ap, inl, inr, ⊎_elim, mod-eq_of_lt, arith}
+use Rattle.std.proofs.Math.Decide.{dec_lt}
 use Rattle.std.proofs.Math.Logic.{by_cases}
 use Rattle.std.proofs.Math.Nat.{mod-eq-sub-mod}
-use Rattle.std.proofs.Math.Decide.{dec_lt}
 use Rattle.base.specs.Below.{sum}
 use Rattle.base.specs.SumLaws.{sum_ext, sum_split, sum_grows}
 

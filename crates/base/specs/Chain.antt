@@ -2,8 +2,8 @@
 -- list. It is kept in two lists of places, each place as one more than its number, so that 0 says that there is none.
 use Rattle.std.specs.Prelude.{◌≡◌, refl, Bool, List, ℕ, suc, ◌*◌, ◌/◌, ◌%◌, ◌^◌, ◌+◌, ◌<◌, ◌≤◌, eqb, length, get_or, set, replicate}
 use Rattle.std.proofs.Common.{sym, ◌∙◌, add-one, arith, eq-eqb, ne_eqb, length-set, get_or-set_same, get_or-set_other}
-use Rattle.std.proofs.Math.Logic.{by_cases}
 use Rattle.std.proofs.Math.Decide.{ℕ_discrete}
+use Rattle.std.proofs.Math.Logic.{by_cases}
 use Rattle.std.proofs.lemmas.List.{length-replicate, get_or-replicate}
 use Rattle.base.specs.Below.{last}
 use Rattle.base.specs.LastLaws.{last_here, last_past}

@@ -1,9 +1,7 @@
 -- Values written one behind the other, each as f of a number: of the numbers below n, those that pass a test. Every number's value is
 -- written behind those of the numbers that passed before it, and is written over unless its own number passes: no branch goes by the test.
-use Rattle.std.specs.Prelude.{◌≡◌, Bool, true, false, List, eqb, length, get_or, set}
-use Rattle.std.proofs.Math.Path.{refl, ap}
-use Rattle.std.proofs.Common.{sym, ◌∙◌, add-zero, le_antisymm, add-one, arith, eq-eqb, ne_eqb, length-set, get_or-set_same, get_or-set_other}
-use Prim.Native.Nat.{ℕ, zero, suc, ◌+◌, ◌<◌, ◌≤◌}
+use Rattle.std.specs.Prelude.{◌≡◌, Bool, true, false, List, eqb, length, get_or, set, ℕ, zero, suc, ◌+◌, ◌<◌, ◌≤◌, refl}
+use Rattle.std.proofs.Common.{sym, ◌∙◌, add-zero, le_antisymm, add-one, arith, eq-eqb, ne_eqb, length-set, get_or-set_same, get_or-set_other, ap}
 use Rattle.std.proofs.Math.Dec.{eqb-suc-suc}
 use Rattle.base.specs.Below.{all, sum, one}
 use Rattle.base.specs.Choose.{pick, both, both_true, both_false}

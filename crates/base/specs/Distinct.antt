@@ -1,7 +1,7 @@
 -- That no two of n values are equal: the values of a function at the places below n, and so the words of a list.
 use Rattle.std.specs.Prelude.{◌≡◌, ◌↔◌, Bool, true, not, List, ℕ, ◌<◌, ◌≤◌, eqb, length, get_or, take}
-use Rattle.std.proofs.Math.Logic.Iff
 use Rattle.std.proofs.Common.{arith, length-take-le, get_or-take}
+use Rattle.std.proofs.Math.Logic.Iff
 use Rattle.base.specs.Below.{all}
 use Rattle.base.specs.AllLaws.{all_ext}
 use Rattle.base.specs.Exactly.{tests}

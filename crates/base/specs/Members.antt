@@ -1,9 +1,9 @@
 -- The words of a list: that one is in it, and that none stands in it twice; both by the first word; that a word of a part is in the whole.
 use Rattle.std.specs.Prelude.{◌≡◌, ◌↔◌, ◌⊎◌, List, [], ◌∷◌, ◌++◌, ℕ, zero, suc, ◌+◌, ◌-◌, ◌<◌, length, get_or}
 use Rattle.std.proofs.Common.{sym, ◌∙◌, inl, inr, ⊎_elim, arith, length-append, get_or-append-add}
-use Rattle.std.proofs.Math.Logic.{by_cases}
 use Rattle.std.proofs.Math.Decide.{dec_lt}
 use Rattle.std.proofs.Math.ListN.{get_or-append}
+use Rattle.std.proofs.Math.Logic.{by_cases}
 use Rattle.base.specs.Distinct.{Differ, Among}
 
 -- The word x is in the list.

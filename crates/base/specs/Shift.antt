@@ -1,10 +1,9 @@
 -- Words moved by one place: down, over the word at `at`, or up, to make room there.
-use Rattle.std.specs.Prelude.{◌≡◌, refl, List, [], ◌∷◌, ◌++◌, ℕ, ◌+◌, ◌-◌, ◌<◌, ◌≤◌, length, set, take, drop}
-use Rattle.std.proofs.Common.{sym, ◌∙◌, append_assoc, add-one, arith, length-append, length-drop, take-append-drop, drop_of_length-le, length-take-le, take-suc, take-suc-set, drop_at, drop-set-lt, get_or-append-add}
-use Rattle.std.proofs.Math.Path.{ap}
-use Rattle.std.proofs.Math.ListN.{get_or, length-take, get_or-append}
+use Rattle.std.specs.Prelude.{◌≡◌, refl, List, [], ◌∷◌, ◌++◌, ℕ, ◌+◌, ◌-◌, ◌<◌, ◌≤◌, length, set, take, drop, get_or}
+use Rattle.std.proofs.Common.{sym, ◌∙◌, append_assoc, add-one, arith, length-append, length-drop, take-append-drop, drop_of_length-le, length-take-le, take-suc, take-suc-set, drop_at, drop-set-lt, get_or-append-add, ap, length-take, get_or-take, get_or-drop}
+use Rattle.std.proofs.Math.ListN.{get_or-append}
+use Rattle.std.proofs.Math.Seq.{take-set-lt}
 use Rattle.std.proofs.lemmas.List.{set_split, drop-append-le, take-set-le}
-use Rattle.std.proofs.Math.Seq.{take-set-lt, get_or-take, get_or-drop}
 use Rattle.base.specs.Rest.{drop_next}
 
 -- The words from place `from` up to `end` stand from place `to` on; every other place is as it was.

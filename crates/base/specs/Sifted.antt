@@ -1,11 +1,6 @@
 -- Those words of a list that pass a test, in order: which they are, and the turns of a loop that brings them to the front.
-use Rattle.std.specs.Prelude.{◌≡◌, ◌↔◌, Bool, true, false, get_or, set, take, drop}
-use Rattle.std.proofs.Math.Path.{refl, sym, ap}
-use Rattle.std.proofs.Common.{ap₂, ◌∙◌, inl, inr, ⊎_elim, true≢false, add-one, arith, drop_of_length-le, length-take-le, get_or-take, get_or-drop}
-use mathlib.Core.List.{List, [], ◌∷◌, ◌++◌, append_assoc, append-nil}
-use Prim.Native.Nat.{ℕ, ◌+◌, ◌-◌, ◌<◌, ◌≤◌}
-use Rattle.std.proofs.Math.ListN.{length, length-set}
-use Rattle.std.proofs.Math.Seq.{drop-drop, drop-set-lt, take-suc-set}
+use Rattle.std.specs.Prelude.{◌≡◌, ◌↔◌, Bool, true, false, get_or, set, take, drop, List, [], ◌∷◌, ◌++◌, ℕ, ◌+◌, ◌-◌, ◌<◌, ◌≤◌, length, refl}
+use Rattle.std.proofs.Common.{ap₂, ◌∙◌, inl, inr, ⊎_elim, true≢false, add-one, arith, drop_of_length-le, length-take-le, get_or-take, get_or-drop, append_assoc, append-nil, length-set, sym, ap, drop-drop, drop-set-lt, take-suc-set}
 use Rattle.base.specs.Choose.{pick}
 use Rattle.base.specs.Rest.{drop_next}
 use Rattle.base.specs.Members.{In, Once, in_cons, once_with, once_later, once_first}

@@ -2,8 +2,8 @@
 -- tests is at most n, n where all pass.
 use Rattle.std.specs.Prelude.{◌≡◌, refl, ◌≢◌, Bool, true, false, ℕ, zero, suc, ◌+◌, ◌-◌, ◌<◌, ◌≤◌}
 use Rattle.std.proofs.Common.{ap, ◌∙◌, add-suc, add-zero, add-sub_of_le, le_antisymm, add-one, arith}
-use Rattle.std.proofs.Math.Logic.{by_cases}
 use Rattle.std.proofs.Math.Decide.{ℕ_discrete}
+use Rattle.std.proofs.Math.Logic.{by_cases}
 use Rattle.base.specs.Below.{sum, one}
 
 -- ---- term by term

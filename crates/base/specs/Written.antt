@@ -1,10 +1,9 @@
 -- A list in a lent area. Document 01: lists go to a lent area, whose places past the list stay unchanged.
-use Rattle.std.specs.Prelude.{◌≡◌, refl, List, ◌++◌, ℕ, ◌+◌, ◌<◌, ◌≤◌, length, get_or, set, take}
-use Rattle.std.proofs.Math.Path.{ap}
-use Rattle.std.proofs.Common.{◌∙◌, zero-add, add-one, arith, length-append, length-set, length-drop, drop_of_length-le}
-use Rattle.std.proofs.Math.ListN.{drop, get_or-append}
+use Rattle.std.specs.Prelude.{◌≡◌, refl, List, ◌++◌, ℕ, ◌+◌, ◌<◌, ◌≤◌, length, get_or, set, take, drop}
+use Rattle.std.proofs.Common.{ap, ◌∙◌, zero-add, add-one, arith, length-append, length-set, length-drop, drop_of_length-le, get_or-append-add, get_or-drop}
+use Rattle.std.proofs.Math.ListN.{get_or-append}
+use Rattle.std.proofs.Math.Seq.{sets-eq, take-append_seam, drop-append_seam}
 use Rattle.std.proofs.lemmas.List.Edits.{sets}
-use Rattle.std.proofs.Math.Seq.{sets-eq, take-append_seam, drop-append_seam, get_or-append-add, get_or-drop}
 use Rattle.base.specs.Rest.{drop_next}
 
 unfoldable pub written : List ℕ → List ℕ → List ℕ

@@ -1,7 +1,5 @@
 -- What specs/Promises.antt states of every history, proved.
-use mathlib.Core.Path.{subst, sym, ◌∙◌}
-use Prim.Native.Nat.{◌≤◌}
-use native.Mathlib.Omega.{arith}
+use Rattle.std.proofs.Common.{subst, sym, ◌∙◌, ◌≤◌, arith}
 use Rattle.steps.proofs.laws.Determined.{one_answer}
 use Rattle.world.specs.SoundLaws.{sound_exactly}
 use Rattle.history.specs.Perform.{perform}

@@ -1,12 +1,6 @@
 -- What a registered id needs until its entry is in a space: room to recycle it, which steps on the registry and on a space keep; and the
 -- two ways of an admission.
-use mathlib.Core.Bool.{false}
-use mathlib.Core.List.{List}
-use mathlib.Core.Path.{◌≡◌, sym, ap, ◌∙◌}
-use Prim.Native.Nat.{ℕ, ◌-◌, ◌<◌, ◌≤◌}
-use native.Mathlib.Omega.{arith}
-use borrow.Author.Tests.{ne_eqb}
-use lib.Dec.{eqb}
+use Rattle.std.proofs.Common.{false, List, ◌≡◌, sym, ap, ◌∙◌, ℕ, ◌-◌, ◌<◌, ◌≤◌, arith, ne_eqb, eqb}
 use Rattle.answers.specs.Number.{number_of}
 use Rattle.answers.specs.declared.Answer.TheVariants.{OutOfMemory}
 use Rattle.space.specs.Change.{InsertOut, insert_out}

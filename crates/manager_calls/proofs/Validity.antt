@@ -1,9 +1,5 @@
 -- Whether a token is valid, by the place of its id.
-use mathlib.Core.Bool.{Bool, false}
-use mathlib.Core.List.{List}
-use mathlib.Core.Path.{◌≡◌, ap, ◌∙◌}
-use Prim.Native.Nat.{ℕ, ◌<◌, ◌≤◌}
-use borrow.Author.Tests.{lt-ltb, le-ltb}
+use Rattle.std.proofs.Common.{Bool, false, List, ◌≡◌, ap, ◌∙◌, ℕ, ◌<◌, ◌≤◌, lt-ltb, le-ltb}
 use Rattle.steps.specs.Steps.{place_in}
 use Rattle.token.specs.Token.{id_of}
 use Rattle.world.specs.Numbers.{registered_of}

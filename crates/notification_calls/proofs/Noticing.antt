@@ -1,14 +1,7 @@
 -- The notices of the queue at place q, by whether there is such a place; and the calls on the queue of a pid.
-use mathlib.Core.Bool.{true, false}
-use mathlib.Core.List.{List, [], ◌∷◌}
-use mathlib.Core.Logic.{by_cases}
-use mathlib.Core.Path.{◌≡◌, refl, ap, ◌∙◌}
-use Prim.Native.Nat.{ℕ, ◌*◌, ◌<◌, ◌≤◌}
-use native.Mathlib.Decide.{dec_lt}
-use native.Mathlib.Omega.{arith}
-use borrow.Author.Tests.{lt-ltb, le-ltb}
-use lib.Dec.{ltb}
-use lib.ListN.{length}
+use Rattle.std.proofs.Common.{true, false, List, [], ◌∷◌, ◌≡◌, refl, ap, ◌∙◌, ℕ, ◌*◌, ◌<◌, ◌≤◌, arith, lt-ltb, le-ltb, ltb, length}
+use Rattle.std.proofs.Math.Decide.{dec_lt}
+use Rattle.std.proofs.Math.Logic.{by_cases}
 use Rattle.revocation.specs.NoticesLaws.{length_notices}
 use Rattle.revocation_steps.specs.Revocation.{queue_for, free_step}
 use Rattle.steps.proofs.WorldCalls.{world_calls}

@@ -1,11 +1,10 @@
 -- Laws of the collection of the children of place p with no children and no holders: exactly they leave the registry, the places up to p
 -- stay as they are, and the rules of a registry hold on.
 use Rattle.std.specs.Prelude.{◌≡◌, ℕ, zero, suc, ◌+◌, ◌-◌, ◌*◌, ◌<◌, ◌≤◌, Bool, true, false, not, ◌≢◌, ◌↔◌, List, length, ◌==◌, refl}
-use Rattle.std.proofs.Common.{sym, ◌∙◌, ⊎_elim, true≢false, arith, eqb-true, ne_eqb}
-use Rattle.std.proofs.Math.Path.{ap}
+use Rattle.std.proofs.Common.{sym, ◌∙◌, ⊎_elim, true≢false, arith, eqb-true, ne_eqb, ap}
+use Rattle.std.proofs.Math.Decide.{ℕ_discrete}
 use Rattle.std.proofs.Math.Logic.{by_cases}
 use Rattle.std.proofs.Math.Logic.Iff
-use Rattle.std.proofs.Math.Decide.{ℕ_discrete}
 use Rattle.base.specs.Choose.{pick, both, both_left}
 use Rattle.base.specs.Distinct.{Differ, Among}
 use Rattle.base.specs.Exactly.{eqb_exactly, same_test}

@@ -1,6 +1,6 @@
 -- The turns of the code that holds and releases ids: one id, at the place k where it was found, and a list of them one after the other.
 use Rattle.std.proofs.Common.{◌≡◌, ℕ, ◌+◌, ◌-◌, ◌*◌, ◌%◌, ◌^◌, ◌<◌, ◌≤◌, List, length, get_or, drop, set, sym, ◌∙◌, drop_of_length-le, rules, le-ltb, lt-ltb}
-use lib.Seq.{set-get_or}
+use Rattle.std.proofs.Math.Seq.{set-get_or}
 use Rattle.base.specs.Rest.{drop_next}
 use Rattle.registry.specs.Words.{state_at}
 use Rattle.registry.specs.Holders.{place_of, one_more, one_less, on_state, held, released, each_id}

@@ -1,13 +1,10 @@
 -- The children of each place as a list in two arrays of places: `firsts` has each place's first child, `nexts` what follows each place
 -- among the children of its parent. A place is kept as one more than its number, so that 0 says that there is none.
-use Rattle.std.specs.Prelude.{◌≡◌, ℕ, zero, suc, ◌+◌, ◌-◌, ◌<◌, ◌≤◌, Bool, true, false, ◌≢◌, List, [], ◌∷◌, length, replicate, slice_index, slice_index_or, slice_set}
-use Rattle.std.proofs.Math.Path.{refl}
-use Rattle.std.proofs.Common.{ap, ◌∙◌, length-set, get_or-set_same, get_or-set_other}
-use Rattle.std.proofs.Math.Logic.{by_cases}
+use Rattle.std.specs.Prelude.{◌≡◌, ℕ, zero, suc, ◌+◌, ◌-◌, ◌<◌, ◌≤◌, Bool, true, false, ◌≢◌, List, [], ◌∷◌, length, replicate, slice_index, slice_index_or, slice_set, refl}
+use Rattle.std.proofs.Common.{ap, ◌∙◌, length-set, get_or-set_same, get_or-set_other, arith, eq-eqb, ne_eqb, eqb-true}
 use Rattle.std.proofs.Math.Decide.{ℕ_discrete}
-use native.Mathlib.Omega.{arith}
-use borrow.Author.Tests.{eq-eqb, ne_eqb, eqb-true}
 use Rattle.std.proofs.Math.ListN.{length-replicate}
+use Rattle.std.proofs.Math.Logic.{by_cases}
 use Rattle.base.specs.Choose.{pick}
 use Rattle.registry.specs.Words.{link_at, child_of}
 use Rattle.registry.specs.Sound.{Linked}

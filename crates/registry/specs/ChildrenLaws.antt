@@ -1,8 +1,8 @@
 -- Laws of the lists of children: which places stand in one, in what order and how many; and of the ids at some places.
 use Rattle.std.specs.Prelude.{◌≡◌, ℕ, zero, suc, ◌+◌, ◌<◌, ◌≤◌, Bool, true, false, ◌≢◌, List, [], ◌∷◌, length, slice_index, slice_index_or, refl}
 use Rattle.std.proofs.Common.{sym, ap, ◌∙◌, inl, inr, add-zero, zero-add, arith, eqb-true}
-use Rattle.std.proofs.Math.Logic.{by_cases}
 use Rattle.std.proofs.Math.Decide.{ℕ_discrete}
+use Rattle.std.proofs.Math.Logic.{by_cases}
 use Rattle.std.proofs.lemmas.Bool.{eqb-false}
 use Rattle.base.specs.Below.{one}
 use Rattle.base.specs.Choose.{pick}

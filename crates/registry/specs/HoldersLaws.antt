@@ -1,11 +1,8 @@
 -- Laws of holding and releasing: nothing but holders changes, and those of each id by as often as it is held or released.
 use Rattle.std.specs.Prelude.{◌≡◌, ℕ, ◌+◌, ◌-◌, ◌*◌, ◌%◌, ◌^◌, ◌<◌, ◌≤◌, List, [], ◌∷◌, length, ◌==◌, nat_eq, slice_set, refl}
-use Rattle.std.proofs.Math.Path.{sym, ap}
-use Rattle.std.proofs.Common.{◌∙◌, get_or-set_same, get_or-set_other}
-use Rattle.std.proofs.Math.Logic.{by_cases}
+use Rattle.std.proofs.Common.{◌∙◌, get_or-set_same, get_or-set_other, arith, lt-ltb, le-ltb, eqb-true, eq-eqb, ne_eqb, sym, ap}
 use Rattle.std.proofs.Math.Decide.{ℕ_discrete, dec_lt}
-use native.Mathlib.Omega.{arith}
-use borrow.Author.Tests.{lt-ltb, le-ltb, eqb-true, eq-eqb, ne_eqb}
+use Rattle.std.proofs.Math.Logic.{by_cases}
 use Rattle.base.specs.Below.{one}
 use Rattle.base.specs.SumLaws.{one_le}
 use Rattle.base.specs.Distinct.{Differ}

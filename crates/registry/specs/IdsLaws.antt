@@ -1,12 +1,9 @@
 -- Laws of taking the smallest recycled id: the others stand one place lower, and nothing else changes; the rules hold on without it, and
 -- it is free to be registered. And of recycling an id: it joins the others, and nothing else changes; the rules hold on with it.
 use Rattle.std.specs.Prelude.{◌≡◌, ℕ, zero, suc, ◌+◌, ◌-◌, ◌*◌, ◌<◌, ◌≤◌, ◌≢◌, ◌⊎◌, ◌↔◌, List, length, nat_lt, slice_index, refl}
-use Rattle.std.proofs.Common.{sym, ◌∙◌, inl, inr, ⊎_elim, arith, ltb-true, ltb-false}
-use Rattle.std.proofs.Math.Path.{ap}
-use Rattle.std.proofs.Math.Logic.{by_cases}
+use Rattle.std.proofs.Common.{sym, ◌∙◌, inl, inr, ⊎_elim, arith, ltb-true, ltb-false, ap, length-set, get_or-set_same, get_or-set_other}
 use Rattle.std.proofs.Math.Decide.{ℕ_discrete, dec_lt}
-use Rattle.std.proofs.Math.ListN.{length-set}
-use Rattle.std.proofs.Math.Seq.{get_or-set_same, get_or-set_other}
+use Rattle.std.proofs.Math.Logic.{by_cases}
 use Rattle.base.specs.Distinct.{Among}
 use Rattle.base.specs.FirstLaws.{first-le, first_passes, first_before}
 use Rattle.base.specs.Shift.{shifted_up, length-shifted_down, shifted_down_before, shifted_down_in, length-shifted_up, shifted_up_before, shifted_up_in}

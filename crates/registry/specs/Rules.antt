@@ -1,7 +1,6 @@
 -- The rules of a registry in two records, and that each goes only by the words that it reads: where these stay, it holds on.
 use Rattle.std.specs.Prelude.{◌≡◌, ℕ, suc, ◌<◌, List, ◌==◌}
-use Rattle.std.proofs.Common.{sym, ◌∙◌, arith}
-use Rattle.std.proofs.Math.Path.{ap}
+use Rattle.std.proofs.Common.{sym, ◌∙◌, arith, ap}
 use Rattle.base.specs.Below.{one}
 use Rattle.base.specs.SumLaws.{sum_ext}
 use Rattle.base.specs.Distinct.{Differ}

@@ -1,9 +1,9 @@
 -- Each test of the registry is true exactly when its rule holds.
 use Rattle.std.specs.Prelude.{◌≡◌, ℕ, suc, pred, ◌≤◌, Bool, true, ◌↔◌, ◌==◌, nat_eq, nat_le}
+use Rattle.std.proofs.Common.{arith}
+use Rattle.std.proofs.Math.Decide.{ℕ_discrete}
 use Rattle.std.proofs.Math.Logic.{by_cases}
 use Rattle.std.proofs.Math.Logic.Iff
-use Rattle.std.proofs.Math.Decide.{ℕ_discrete}
-use Rattle.std.proofs.Common.{arith}
 use Rattle.base.specs.Choose.{pick}
 use Rattle.base.specs.Exactly.{some_exactly, eqb_exactly, leb_exactly, all_exactly, tests}
 use Rattle.registry.specs.Words.{revoked, has_list}

@@ -2,8 +2,8 @@
 -- released, a place is given a list of children, and places are marked as revoked.
 use Rattle.std.specs.Prelude.{◌≡◌, ℕ, ◌+◌, ◌*◌, ◌<◌, ◌≤◌, ◌⊎◌, List, length, slice_index, slice_set, refl}
 use Rattle.std.proofs.Common.{ap, ◌∙◌, inl, inr, ⊎_elim, arith, length-set, get_or-set_same, get_or-set_other}
-use Rattle.std.proofs.Math.Logic.{by_cases}
 use Rattle.std.proofs.Math.Decide.{ℕ_discrete}
+use Rattle.std.proofs.Math.Logic.{by_cases}
 use Rattle.base.specs.Distinct.{Differ}
 use Rattle.registry.specs.Words.{id_at, object_at, state_at, link_at, recycled_at, revoked, has_list}
 use Rattle.registry.specs.Sound.{ParentHasList, Cascaded}

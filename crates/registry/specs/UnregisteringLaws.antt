@@ -1,11 +1,8 @@
 -- Laws of unregistering a place: what stands where afterwards, whose children lose their parent, and that the rules of a registry hold on.
-use Rattle.std.specs.Prelude.{◌≡◌, ℕ, zero, suc, ◌+◌, ◌-◌, ◌*◌, ◌<◌, ◌≤◌, ◌≢◌, ◌⊎◌, ◌↔◌, List, length, slice_index, slice_set}
-use Rattle.std.proofs.Math.Path.{refl, ap}
-use Rattle.std.proofs.Common.{sym, ◌∙◌, ⊎_elim, zero-add, arith, lt-ltb, le-ltb, eq-eqb, ne_eqb, get_or-set_same}
-use Rattle.std.proofs.Math.Logic.{inl, inr, by_cases}
+use Rattle.std.specs.Prelude.{◌≡◌, ℕ, zero, suc, ◌+◌, ◌-◌, ◌*◌, ◌<◌, ◌≤◌, ◌≢◌, ◌⊎◌, ◌↔◌, List, length, slice_index, slice_set, refl}
+use Rattle.std.proofs.Common.{ap, sym, ◌∙◌, ⊎_elim, zero-add, arith, lt-ltb, le-ltb, eq-eqb, ne_eqb, get_or-set_same, inl, inr, length-set, get_or-set_other}
 use Rattle.std.proofs.Math.Decide.{ℕ_discrete, dec_lt}
-use Rattle.std.proofs.Math.ListN.{length-set}
-use Rattle.std.proofs.Math.Seq.{get_or-set_other}
+use Rattle.std.proofs.Math.Logic.{by_cases}
 use Rattle.base.specs.Below.{sum, one}
 use Rattle.base.specs.Distinct.{Differ, Among}
 use Rattle.base.specs.Exactly.{eqb_exactly, same_test}

@@ -1,10 +1,9 @@
 -- A row of values with one of them left out, where the later ones close up: so stand the columns of a registry after a place has left,
 -- and the recycled ids before one more has joined them.
 use Rattle.std.specs.Prelude.{◌≡◌, ℕ, ◌+◌, ◌-◌, ◌<◌, ◌≤◌, ◌≢◌, ◌⊎◌, ◌↔◌, nat_lt}
-use Rattle.std.proofs.Common.{sym, ap, ◌∙◌, ⊎_elim, lt-ltb, le-ltb}
-use Rattle.std.proofs.Math.Logic.{inl, inr, by_cases}
+use Rattle.std.proofs.Common.{sym, ap, ◌∙◌, ⊎_elim, lt-ltb, le-ltb, arith, inl, inr}
 use Rattle.std.proofs.Math.Decide.{ℕ_discrete, dec_lt}
-use native.Mathlib.Omega.{arith}
+use Rattle.std.proofs.Math.Logic.{by_cases}
 use Rattle.base.specs.Below.{sum}
 use Rattle.base.specs.Choose.{pick}
 use Rattle.base.specs.Distinct.{Differ, Among}

@@ -1,7 +1,6 @@
 -- The digits of a number: the fewest that hold it are those of a line. How long a line is.
 use Rattle.std.specs.Prelude.{◌≡◌, refl, Bool, true, false, List, ℕ, zero, suc, ◌+◌, ◌-◌, ◌/◌, ◌^◌, ◌<◌, ◌≤◌, ltb, length, take}
-use Rattle.std.proofs.Math.Path.{ap}
-use Rattle.std.proofs.Common.{◌∙◌, le_antisymm, add-one, arith, lt-ltb, le-ltb, length-append, length-take}
+use Rattle.std.proofs.Common.{ap, ◌∙◌, le_antisymm, add-one, arith, lt-ltb, le-ltb, length-append, length-take}
 use Rattle.std.proofs.Math.Nat.{pow-le-pow_right}
 use Rattle.base.specs.Choose.{pick}
 use Rattle.io.specs.Digits.{last_digits, IsDigitCount}

@@ -1,13 +1,8 @@
 -- A record made of given fields, as its 24 bytes: read back, it has these fields.
-use Rattle.std.specs.Prelude.{◌≡◌}
-use Rattle.std.proofs.Math.Path.{refl}
-use Rattle.std.proofs.Common.{sym, ap, ◌∙◌, add_assoc, add-mul, mul_assoc, mul-one, add-zero, zero-add, mod-eq_of_lt, length-append}
-use mathlib.Core.List.{List, [], ◌∷◌, ◌++◌, append_assoc}
-use Prim.Native.Nat.{ℕ, zero, suc, ◌+◌, ◌*◌, ◌/◌, ◌%◌, ◌^◌, ◌<◌}
-use Rattle.std.proofs.Math.Nat.{mod-one, pow-succ', pow-le-pow_right}
-use native.Mathlib.Omega.{arith}
+use Rattle.std.specs.Prelude.{◌≡◌, List, [], ◌∷◌, ◌++◌, ℕ, zero, suc, ◌+◌, ◌*◌, ◌/◌, ◌%◌, ◌^◌, ◌<◌, length, refl}
+use Rattle.std.proofs.Common.{sym, ap, ◌∙◌, add_assoc, add-mul, mul_assoc, mul-one, add-zero, zero-add, mod-eq_of_lt, length-append, append_assoc, arith}
 use Rattle.std.proofs.Math.Arith.{mod-mul}
-use Rattle.std.proofs.Math.ListN.{length}
+use Rattle.std.proofs.Math.Nat.{mod-one, pow-succ', pow-le-pow_right}
 use Rattle.std.proofs.lemmas.List.{get_or_at}
 use Rattle.request.specs.declared.Request.{Request}
 use Rattle.request.specs.Record.{word_from, word_at, request_of}

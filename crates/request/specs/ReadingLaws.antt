@@ -1,8 +1,8 @@
 -- When a record's call is made and when it is refused, in words of its fields.
 use Rattle.std.specs.Prelude.{◌≡◌, refl, ◌↔◌, ◌≢◌, Bool, true, false, not, ℕ, ◌<◌, ◌≤◌, eqb, ltb}
 use Rattle.std.proofs.Common.{sym, true≢false, arith, ltb-false, le-ltb, ne_eqb}
-use Rattle.std.proofs.Math.Logic.Iff
 use Rattle.std.proofs.lemmas.Bool.{eqb-false, not-false}
+use Rattle.std.proofs.Math.Logic.Iff
 use Rattle.answers.specs.declared.Answer.TheVariants.{BadSpace, BadField}
 use Rattle.base.specs.Choose.{pick, when}
 use Rattle.base.specs.Exactly.{leb_exactly, eqb_exactly, both_exactly, asked_exactly, all_exactly}

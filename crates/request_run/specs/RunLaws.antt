@@ -1,8 +1,6 @@
 -- A run record by record: what each test decides, and that what is left to run, behind what is written, is the whole run.
 use Rattle.std.specs.Prelude.{◌≡◌, refl, ◌≢◌, Bool, true, false, List, ◌++◌, ℕ, suc, ◌+◌, ◌-◌, ◌*◌, ◌/◌, ◌^◌, ◌<◌, ◌≤◌, ltb, length}
-use Rattle.std.proofs.Common.{sym, ap, ◌∙◌}
-use native.Mathlib.Omega.{arith}
-use borrow.Author.Tests.{eq-eqb, ne_eqb, lt-ltb, le-ltb}
+use Rattle.std.proofs.Common.{sym, ap, ◌∙◌, arith, eq-eqb, ne_eqb, lt-ltb, le-ltb}
 use Rattle.answers.specs.Number.{number_of}
 use Rattle.answers.specs.declared.Answer.{Answer}
 use Rattle.answers.specs.declared.Answer.TheVariants.{Done, InvalidCapability, InsufficientRights, CapabilityRevoked, OutOfMemory, InvalidObject, PermissionDenied, AlreadyExists, NotFound, IdExhausted, QuotaExceeded, SpaceQuota, SpaceIds, BadSpace, BadField, RegistryFull, RecycleFull, LogFull, PidTableFull, BadWorld}

@@ -1,15 +1,11 @@
 -- Laws of the log: pairs that join it stand behind those that it has, which stay; where they are absent and differ, all its pairs
 -- differ; and of some pairs exactly those that it has not are absent.
-use Rattle.std.specs.Prelude.{◌≡◌, ◌↔◌, ◌⊎◌, Bool, true, false, List, [], ◌∷◌, ◌++◌, ℕ, ◌+◌, ◌-◌, ◌<◌, ◌≤◌, take}
-use Rattle.std.proofs.Math.Path.{refl, ap}
-use Rattle.std.proofs.Common.{sym, ◌∙◌, inl, inr, ⊎_elim, true≢false, arith, length-append, length-drop, length-take-le, get_or-take, get_or-drop}
-use Rattle.std.proofs.Math.Logic.{by_cases}
-use Rattle.std.proofs.Math.Bool.{not}
+use Rattle.std.specs.Prelude.{◌≡◌, ◌↔◌, ◌⊎◌, Bool, true, false, List, [], ◌∷◌, ◌++◌, ℕ, ◌+◌, ◌-◌, ◌<◌, ◌≤◌, take, not, eqb, ltb, length, drop, refl}
+use Rattle.std.proofs.Common.{sym, ◌∙◌, inl, inr, ⊎_elim, true≢false, arith, length-append, length-drop, length-take-le, get_or-take, get_or-drop, eqb-true, eq-eqb, length-take, ap, take_at, drop_at}
 use Rattle.std.proofs.Math.Decide.{dec_lt}
-use borrow.Author.Tests.{eqb-true, eq-eqb, not-true}
-use Rattle.std.proofs.Math.Dec.{eqb, ltb}
-use Rattle.std.proofs.Math.ListN.{length, drop, length-take, get_or-append}
-use Rattle.std.proofs.Math.Seq.{take_at, drop_at}
+use Rattle.std.proofs.Math.ListN.{get_or-append}
+use Rattle.std.proofs.Math.Logic.{by_cases}
+use Rattle.std.proofs.lemmas.Bool.{not-true}
 use Rattle.base.specs.Choose.{pick, refuted}
 use Rattle.base.specs.Distinct.{Differ, Among}
 use Rattle.base.specs.FirstLaws.{first_some_exactly, first_ext}

@@ -1,13 +1,8 @@
 -- Laws of the notices of a queue as words: it holds the last 256 notices that joined, in order.
-use Rattle.std.specs.Prelude.{◌≡◌, refl, length, drop}
-use Rattle.std.proofs.Math.Path.{sym, ap₂}
-use Rattle.std.proofs.Common.{ap, ◌∙◌, add-zero, add-one, length-append, length-drop, drop-drop}
-use Rattle.std.proofs.Math.Logic.{by_cases}
-use mathlib.Core.List.{List, [], ◌∷◌, ◌++◌, append_assoc, append-nil}
-use Prim.Native.Nat.{ℕ, zero, suc, ◌+◌, ◌-◌, ◌*◌, ◌<◌, ◌≤◌}
+use Rattle.std.specs.Prelude.{◌≡◌, refl, length, drop, List, [], ◌∷◌, ◌++◌, ℕ, zero, suc, ◌+◌, ◌-◌, ◌*◌, ◌<◌, ◌≤◌}
+use Rattle.std.proofs.Common.{ap, ◌∙◌, add-zero, add-one, length-append, length-drop, drop-drop, append_assoc, append-nil, arith, zero-add, sym, ap₂}
 use Rattle.std.proofs.Math.Decide.{dec_lt}
-use Rattle.std.proofs.Math.Nat.{zero-add}
-use native.Mathlib.Omega.{arith}
+use Rattle.std.proofs.Math.Logic.{by_cases}
 use Rattle.std.proofs.lemmas.List.{drop-append-le}
 use Rattle.revocation.specs.Words.{first_of, length_of}
 use Rattle.revocation.specs.Queue.{pushed, begun, notices_from, notices}

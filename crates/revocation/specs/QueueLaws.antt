@@ -1,11 +1,8 @@
 -- Laws of a queue, notice by notice: a new one is the last, the others keep their order, and a sound queue stays sound.
 use Rattle.std.specs.Prelude.{◌≡◌, ◌≢◌, ◌⊎◌, List, ℕ, ◌+◌, ◌*◌, ◌%◌, ◌<◌, ◌≤◌, length, get_or, set}
-use Rattle.std.proofs.Math.Path.{ap}
-use Rattle.std.proofs.Common.{◌∙◌, inl, inr, ⊎_elim, arith, lt-ltb, le-ltb}
-use Rattle.std.proofs.Math.Logic.{by_cases}
+use Rattle.std.proofs.Common.{ap, ◌∙◌, inl, inr, ⊎_elim, arith, lt-ltb, le-ltb, length-set, get_or-set_same, get_or-set_other}
 use Rattle.std.proofs.Math.Decide.{dec_lt}
-use Rattle.std.proofs.Math.ListN.{length-set}
-use Rattle.std.proofs.Math.Seq.{get_or-set_same, get_or-set_other}
+use Rattle.std.proofs.Math.Logic.{by_cases}
 use Rattle.base.specs.Stores.{stores}
 use Rattle.revocation.specs.Words.{pid_of, first_of, length_of, ring_at, reason_at}
 use Rattle.revocation.specs.Queue.{notice_set, pushed, begun, freed}

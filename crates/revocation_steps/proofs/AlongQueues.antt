@@ -1,12 +1,5 @@
 -- A loop along the queues: the place q starts at `at`, and the next one 771 words on.
-use mathlib.Core.Bool.{Bool}
-use mathlib.Core.List.{List}
-use mathlib.Core.Path.{◌≡◌, sym, ap, ap₂, ◌∙◌}
-use Prim.Native.Nat.{ℕ, ◌+◌, ◌<◌, ◌≤◌}
-use native.Mathlib.Nat.{add-zero}
-use native.Mathlib.Omega.{arith}
-use lib.Dec.{eqb, ltb}
-use lib.ListN.{length, get_or}
+use Rattle.std.proofs.Common.{Bool, List, ◌≡◌, sym, ap, ap₂, ◌∙◌, ℕ, ◌+◌, ◌<◌, ◌≤◌, add-zero, arith, eqb, ltb, length, get_or}
 use Rattle.base.specs.Choose.{both}
 use Rattle.world.specs.Layout.{inside}
 use Rattle.world.specs.Regions.{queue, start_of, StartsAt}

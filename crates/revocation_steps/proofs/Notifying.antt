@@ -1,14 +1,8 @@
 -- The three ways of a notice: behind the others of a queue, as the first of a new one, or lost where no place is free. The code found
 -- place q for the pid and f free.
-use mathlib.Core.List.{List}
-use mathlib.Core.Logic.{by_cases}
-use mathlib.Core.Path.{◌≡◌, refl, sym, ap₂}
-use Prim.Native.Nat.{ℕ, ◌<◌, ◌≤◌}
-use native.Mathlib.Decide.{dec_lt, ℕ_discrete}
-use native.Mathlib.Omega.{arith}
-use borrow.Author.Tests.{lt-ltb, le-ltb, ltb-true, ne_eqb}
-use lib.Dec.{eqb, ltb}
-use lib.ListN.{length}
+use Rattle.std.proofs.Common.{List, ◌≡◌, refl, sym, ap₂, ℕ, ◌<◌, ◌≤◌, arith, lt-ltb, le-ltb, ltb-true, ne_eqb, eqb, ltb, length}
+use Rattle.std.proofs.Math.Decide.{dec_lt, ℕ_discrete}
+use Rattle.std.proofs.Math.Logic.{by_cases}
 use Rattle.base.specs.Choose.{pick, both, both_left}
 use Rattle.base.specs.FirstLaws.{first_passes}
 use Rattle.revocation.specs.Queue.{pushed, begun}

@@ -1,7 +1,5 @@
 -- A token's pair, id and generation, is the low 56 bits of its word.
-use mathlib.Core.Path.{◌≡◌}
-use Prim.Native.Nat.{ℕ, ◌%◌, ◌^◌, ◌<◌}
-use native.Mathlib.Omega.{arith}
+use Rattle.std.proofs.Common.{◌≡◌, ℕ, ◌%◌, ◌^◌, ◌<◌, arith}
 use Rattle.revocation.specs.Log.{pair_of}
 use Rattle.token.specs.Token.{id_of, generation_of}
 

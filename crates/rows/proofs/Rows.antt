@@ -1,6 +1,5 @@
 -- Document 01's rows P1 to P9 hold: one list, one proof, by computation from the definitions.
-use mathlib.Core.Bool.{true}
-use mathlib.Core.Path.{◌≡◌, refl}
+use Rattle.std.proofs.Common.{true, ◌≡◌, refl}
 use Rattle.rows.proofs.Unfolded.{base, walks, inserts, space, registry, revocation, world, look, steps, cascades, calls, records, run}
 use Rattle.rows.specs.Claims.{every}
 use Rattle.rows.specs.IdRow.{p8}

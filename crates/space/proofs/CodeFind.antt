@@ -1,6 +1,6 @@
 -- What the functions that find an entry answer, by where their search ended.
 use Rattle.std.proofs.Common.{◌≡◌, ℕ, ◌+◌, ◌*◌, ◌≤◌, List, length, get_or, set, sym, refl, ap, ◌∙◌, arith, length-set, get_or-set_other, rules}
-use lib.Seq.{set-get_or, set_comm}
+use Rattle.std.proofs.Math.Seq.{set-get_or, set_comm}
 use Rattle.table.specs.Slots.{entry_at}
 use Rattle.table.specs.declared.CapabilityEntry.{CapabilityEntry}
 use Rattle.table.specs.declared.Found.{Found}

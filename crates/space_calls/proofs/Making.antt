@@ -1,7 +1,5 @@
 -- The token that a space makes of an id, by what the code read and made: the space's facts, and m.
-use mathlib.Core.List.{List}
-use mathlib.Core.Path.{◌≡◌, sym, ap, ◌∙◌}
-use Prim.Native.Nat.{ℕ}
+use Rattle.std.proofs.Common.{List, ◌≡◌, sym, ap, ◌∙◌, ℕ}
 use Rattle.space.specs.Words.{generation_of}
 use Rattle.steps.specs.Replies.{Left}
 use Rattle.steps.specs.Steps.{space_of, facts_of}

@@ -1,7 +1,5 @@
 -- What a call answers by what its step found.
-use mathlib.Core.Bool.{Bool}
-use mathlib.Core.Path.{◌≡◌, ap, ◌∙◌}
-use Prim.Native.Nat.{ℕ}
+use Rattle.std.proofs.Common.{Bool, ◌≡◌, ap, ◌∙◌, ℕ}
 use Rattle.answers.specs.declared.Answer.TheVariants.{Done, NotFound}
 use Rattle.base.specs.Below.{one}
 use Rattle.space.specs.declared.LookedUp.{LookedUp}

@@ -1,9 +1,5 @@
 -- A copy by way of the scratch: what `replace` asks, and that it leaves the copy.
-use mathlib.Core.List.{List}
-use mathlib.Core.Path.{◌≡◌, ap, ◌∙◌}
-use Prim.Native.Nat.{ℕ, ◌≤◌, ◌<◌}
-use lib.ListN.{length, take}
-use lib.Seq.{length-take-le}
+use Rattle.std.proofs.Common.{List, ◌≡◌, ap, ◌∙◌, ℕ, ◌≤◌, ◌<◌, length, take, length-take-le}
 use Rattle.space.specs.Copy.{copied_table, copied_space, replacement, replaced}
 use Rattle.space.specs.Ids.{entry_ids}
 use Rattle.space.specs.Sound.{SpaceOf}

@@ -1,15 +1,7 @@
 -- What a copy keeps at every turn, whatever entries it inserts: few slots and few live entries, so that the words lent suffice. And the
 -- turns of its loop.
-use mathlib.Core.Path.{◌≡◌, refl, sym, ap, ◌∙◌}
-use mathlib.Core.Bool.{Bool, true, false}
-use mathlib.Core.List.{List, [], ◌∷◌}
-use Prim.Native.Nat.{ℕ, suc, ◌+◌, ◌-◌, ◌*◌, ◌<◌, ◌≤◌}
-use native.Mathlib.Nat.{sub-zero}
-use native.Mathlib.Numerals.{add-one}
-use native.Mathlib.Omega.{arith}
-use borrow.Author.Rules.{rules}
-use borrow.Author.Tests.{ltb-false}
-use lib.ListN.{length}
+use Rattle.std.proofs.Common.{◌≡◌, refl, sym, ap, ◌∙◌, Bool, true, false, List, [], ◌∷◌, ℕ, suc, ◌+◌, ◌-◌, ◌*◌, ◌<◌, ◌≤◌, add-one, arith, rules, ltb-false, length}
+use Rattle.std.proofs.Math.Nat.{sub-zero}
 use Rattle.base.specs.Below.{one}
 use Rattle.base.specs.SumLaws.{sum-zero, sum_update, sum_one_le, one_le}
 use Rattle.table.specs.Slots.{is_live, entry_at, put_entry, id_of}

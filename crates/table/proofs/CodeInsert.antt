@@ -1,12 +1,5 @@
 -- The two ways of an insert: a crowded table is rebuilt first, any other has room.
-use mathlib.Core.Path.{◌≡◌, sym, ap, ◌∙◌}
-use mathlib.Core.Bool.{Bool, true, false}
-use mathlib.Core.List.{List, [], ◌∷◌}
-use Prim.Native.Nat.{ℕ, ◌+◌, ◌*◌, ◌<◌}
-use native.Mathlib.Nat.{add-zero}
-use native.Mathlib.Omega.{arith}
-use borrow.Author.Rules.{rules}
-use borrow.Author.Tests.{ltb-false}
+use Rattle.std.proofs.Common.{◌≡◌, sym, ap, ◌∙◌, Bool, true, false, List, [], ◌∷◌, ℕ, ◌+◌, ◌*◌, ◌<◌, add-zero, arith, rules, ltb-false}
 use Rattle.table.specs.Insert.{Table, leaves, crowded, enlarged, made_room, placed, insert_new}
 use Rattle.table.specs.Copy.{fresh, insert_all}
 use Rattle.table.specs.declared.CapTable.{CapTable}

@@ -1,12 +1,6 @@
 -- The turns of the loops of a rebuild: slots emptied, live entries gathered, entries placed.
-use mathlib.Core.Path.{◌≡◌, refl, sym, ap, ◌∙◌}
-use mathlib.Core.List.{List}
-use Prim.Native.Nat.{ℕ, suc, ◌+◌, ◌-◌, ◌*◌, ◌<◌, ◌≤◌}
-use native.Mathlib.Nat.{le_antisymm, sub-zero}
-use native.Mathlib.Numerals.{add-one}
-use native.Mathlib.Omega.{arith}
-use borrow.Author.Rules.{rules}
-use lib.ListN.{set}
+use Rattle.std.proofs.Common.{◌≡◌, refl, sym, ap, ◌∙◌, List, ℕ, suc, ◌+◌, ◌-◌, ◌*◌, ◌<◌, ◌≤◌, le_antisymm, add-one, arith, rules, set}
+use Rattle.std.proofs.Math.Nat.{sub-zero}
 use Rattle.table.specs.Slots.{entry_at, put_entry, id_of}
 use Rattle.table.specs.Walk.{free_for}
 use Rattle.table.specs.Insert.{Scratch, emptied, gathered, scratch_entries, place_all}

@@ -1,10 +1,5 @@
 -- What the code learns of a slot by matching it: a full one is live and has its entry, and one with another variant's tag is not live.
-use mathlib.Core.Path.{◌≡◌, refl}
-use mathlib.Core.Logic.{◌⊎◌, ⊎_elim}
-use mathlib.Core.Bool.{Bool, true, false}
-use mathlib.Core.List.{List}
-use Prim.Native.Nat.{ℕ}
-use native.Mathlib.Omega.{arith}
+use Rattle.std.proofs.Common.{◌≡◌, refl, ◌⊎◌, ⊎_elim, Bool, true, false, List, ℕ, arith}
 use denote.Enum.Declared.{tag_of}
 use Rattle.base.specs.Choose.{pick}
 use Rattle.table.specs.Slots.{is_empty, is_live, entry_at, slot_at}

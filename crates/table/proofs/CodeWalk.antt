@@ -1,15 +1,8 @@
 -- The turns of the loops that walk: where a walk stands after one step more, and what is left to count at each step.
-use mathlib.Core.Path.{◌≡◌, refl, sym, ap, ◌∙◌}
-use mathlib.Core.List.{List}
-use mathlib.Core.Bool.{Bool, true, false, not}
-use mathlib.Core.Logic.{by_cases}
-use Prim.Native.Nat.{ℕ, ◌+◌, ◌-◌, ◌%◌, ◌<◌, ◌≤◌}
-use native.Mathlib.Nat.{sub-zero, add-zero, add_comm, mod-eq_of_lt, mod-add-mod}
-use native.Mathlib.Decide.{dec_lt}
-use native.Mathlib.Omega.{arith}
-use borrow.Author.Rules.{rules}
-use borrow.Author.Tests.{ne_eqb, lt-ltb, le-ltb}
-use lib.Dec.{eqb}
+use Rattle.std.proofs.Common.{◌≡◌, refl, sym, ap, ◌∙◌, List, Bool, true, false, not, ℕ, ◌+◌, ◌-◌, ◌%◌, ◌<◌, ◌≤◌, add-zero, add_comm, mod-eq_of_lt, arith, rules, ne_eqb, lt-ltb, le-ltb, eqb}
+use Rattle.std.proofs.Math.Decide.{dec_lt}
+use Rattle.std.proofs.Math.Logic.{by_cases}
+use Rattle.std.proofs.Math.Nat.{sub-zero, mod-add-mod}
 use Rattle.base.specs.Choose.{pick, both, both_left, both_right}
 use Rattle.base.specs.Below.{first_from, first}
 use Rattle.base.specs.FirstLaws.{first_is, first_after, first_up_start, first_up_found, first_up_next, first_up_done}

@@ -1,12 +1,12 @@
 -- Laws of `bit`: what the machine's operations do to each bit, and that a number is determined by its bits.
 use Rattle.std.specs.Prelude.{ℕ, zero, suc, ◌+◌, ◌-◌, ◌*◌, ◌/◌, ◌%◌, ◌^◌, ◌≤◌, ◌<◌, min, max, ◌≡◌, refl}
 use Rattle.std.proofs.Common.{sym, ap, ◌∙◌, mod-lt, lt_of_lt_of_le, pow-suc, one-add, arith, lit<, pow_mono, pow-add, shr-shr}
-use Rattle.std.proofs.Math.Nat.{div-eq_of_lt}
 use Rattle.std.proofs.Math.Arith.{bin_ind}
-use Rattle.std.specs.Int.Bits.{bit_and, bit_or, and_step, or_step}
+use Rattle.std.proofs.Math.Nat.{div-eq_of_lt}
+use Rattle.std.proofs.Math.Pow.{field, mod-mod-pow}
 use Rattle.std.proofs.lemmas.Nat.{and_shr, or_shr}
 use Rattle.std.proofs.lemmas.Nat.Bits.{and_high}
-use Rattle.std.proofs.Math.Pow.{field, mod-mod-pow}
+use Rattle.std.specs.Int.Bits.{bit_and, bit_or, and_step, or_step}
 use Rattle.token.specs.Bits.{bit}
 
 pub bit_of_and : (a b i : ℕ) → bit (bit_and a b) i ≡ min (bit a i) (bit b i)

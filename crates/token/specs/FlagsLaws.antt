@@ -1,8 +1,8 @@
 -- What the definitions of Flags.antt mean: a flag says that the rights hold its right, a permission and its number
 -- determine each other, and combined flags are the least that contain each of those given.
-use Rattle.std.specs.Prelude.{ℕ, ◌^◌, ◌≤◌, ◌<◌, Bool, true, false, ◌↔◌, ◌≡◌, refl, eqb}
+use Rattle.std.specs.Prelude.{ℕ, ◌^◌, ◌≤◌, ◌<◌, Bool, true, false, ◌↔◌, ◌≡◌, refl, eqb, List, [], ◌∷◌}
 use Rattle.std.proofs.Common.{zero-le, sym, ap, ◌∙◌, arith, eqb-true, lit<}
-use mathlib.Core.List.{List, [], ◌∷◌, Memᴰ}
+use mathlib.Core.List.{Memᴰ}
 use Rattle.base.specs.Choose.{pick, both_left, both_right, both_make}
 use Rattle.answers.specs.declared.Answer.TheVariants.{BadField}
 use Rattle.token.specs.declared.flags.CapabilityFlags.{CapabilityFlags}

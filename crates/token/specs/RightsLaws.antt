@@ -1,11 +1,11 @@
 -- What the definitions of Rights.antt mean for each right: a right is a number i below 32, and a set of rights has it
 -- where its bit i is 1. By `by_bits` of BitsLaws.antt these laws determine each result.
 use Rattle.std.specs.Prelude.{ℕ, ◌-◌, ◌*◌, ◌^◌, ◌≤◌, ◌<◌, min, max, true, ◌↔◌, ◌≡◌, refl, eqb}
-use Rattle.std.proofs.Math.Logic.{by_cases}
 use Rattle.std.proofs.Common.{mod-lt, one-mul, arith, eqb-true, eq-eqb, ne_eqb, lit<, pow_pos}
 use Rattle.std.proofs.Math.Decide.{dec_lt}
-use Rattle.std.specs.Int.Bits.{bit_and}
+use Rattle.std.proofs.Math.Logic.{by_cases}
 use Rattle.std.proofs.Math.Pow.{ones_sub-lt}
+use Rattle.std.specs.Int.Bits.{bit_and}
 use Rattle.token.specs.Bits.{bit}
 use Rattle.token.specs.BitsLaws.{bit_of_and, bit_of_or, bit_not, bit_above, bit_mod, by_bits, of_bit, and_one}
 use Rattle.token.specs.Rights.{READ, WRITE, EXECUTE, GRANT, REVOKE, DELETE, MODIFY, CREATE, ALL}

@@ -2,8 +2,8 @@
 -- read back, every word is the token of its fields, and tokens with the same fields are the same.
 use Rattle.std.specs.Prelude.{ℕ, ◌-◌, ◌^◌, ◌<◌, ◌⊎◌, ◌↔◌, ◌≡◌}
 use Rattle.std.proofs.Common.{inl, inr, ⊎_elim, sym, ap, ◌∙◌, arith, le-ltb, lt-ltb, shr-shr}
-use Rattle.std.proofs.Math.Logic.{by_cases}
 use Rattle.std.proofs.Math.Decide.{dec_lt}
+use Rattle.std.proofs.Math.Logic.{by_cases}
 use Rattle.std.proofs.Math.Pow.{shr_mod}
 use Rattle.answers.specs.declared.Answer.TheVariants.{BadField}
 use Rattle.token.specs.declared.capability.CapabilityToken.{CapabilityToken}

@@ -1,10 +1,10 @@
 -- When each answer of an opening is given: 21 exactly for a record that is not good, 26 exactly for a good one and a short length, 0
 -- exactly in the rest. And a refused opening changes nothing.
-use borrow.Author.Tests.{le-leb, lt-leb}
 use Rattle.std.specs.Prelude.{Bool, true, false, not, leb, List, ◌↔◌, ◌≢◌, ◌≡◌, refl, ℕ, ◌≤◌, ◌<◌, length}
-use Rattle.std.proofs.Common.{true≢false, sym, ap, subst, ◌∙◌, arith}
-use Rattle.std.proofs.Math.Logic.{by_cases}
+use Rattle.std.proofs.Common.{le-leb, true≢false, sym, ap, subst, ◌∙◌, arith}
 use Rattle.std.proofs.Math.Decide.{dec_lt}
+use Rattle.std.proofs.Math.Logic.{by_cases}
+use Rattle.std.proofs.lemmas.Bool.{lt-leb}
 use Rattle.answers.specs.Number.{number_of}
 use Rattle.answers.specs.declared.Answer.TheVariants.{Done, BadField, BadWorld}
 use Rattle.base.specs.Choose.{when_yes, when_no}

@@ -1,10 +1,5 @@
 -- The turns of the loops of open.rt: what each has written so far is a definition at the loop's counter.
-use mathlib.Core.List.{List}
-use mathlib.Core.Path.{◌≡◌}
-use Prim.Native.Nat.{ℕ, ◌+◌}
-use native.Mathlib.Omega.{arith}
-use borrow.Author.Rules.{rules}
-use lib.ListN.{set, length-set}
+use Rattle.std.proofs.Common.{List, ◌≡◌, ℕ, ◌+◌, arith, rules, set, length-set}
 use Rattle.world.specs.Each.{each_none, each_more, each_done}
 use Rattle.world.specs.Open.{open_head, open_spaces, open_queues, opened}
 use Rattle.world.specs.Regions.{head, queue, start_of, on_region}

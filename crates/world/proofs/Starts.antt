@@ -1,9 +1,5 @@
 -- The sums that the offsets of regions.rt are, in the code's words: they fit a word, and they are the starts of the regions.
-use mathlib.Core.Path.{◌≡◌, refl}
-use Prim.Native.Nat.{ℕ, ◌+◌, ◌*◌, ◌≤◌, ◌<◌}
-use native.Mathlib.Nat.{le_of_lt, mul-le-mul_right}
-use native.Mathlib.Omega.{arith}
-use borrow.Author.Rules.{rules}
+use Rattle.std.proofs.Common.{◌≡◌, refl, ℕ, ◌+◌, ◌*◌, ◌≤◌, ◌<◌, le_of_lt, mul-le-mul_right, arith, rules}
 use mir.Syntax.{w64}
 use mir.Val.{Fits}
 use Rattle.world.specs.Layout.{inside, length-le}

@@ -1,10 +1,6 @@
 -- Several tests at once, as the code takes them one after the other: the first that fails decides.
-use mathlib.Core.Bool.{Bool, true, false}
-use mathlib.Core.Path.{◌≡◌}
-use Prim.Native.Nat.{ℕ, ◌≤◌, ◌<◌}
-use borrow.Author.Rules.{rules}
-use borrow.Author.Tests.{eq-eqb, ne_eqb, le-leb, lt-leb}
-use lib.Dec.{eqb, leb}
+use Rattle.std.proofs.Common.{Bool, true, false, ◌≡◌, ℕ, ◌≤◌, ◌<◌, rules, eq-eqb, ne_eqb, le-leb, eqb, leb}
+use Rattle.std.proofs.lemmas.Bool.{lt-leb}
 use Rattle.base.specs.Choose.{both}
 
 -- A test that a call answers, as r.

@@ -1,9 +1,6 @@
 -- What a change of several regions does, one after the other: each has its own change, and what is none of them stays.
-use Rattle.std.specs.Prelude.{false, List, ◌≢◌, ◌≡◌, length, drop}
-use Rattle.std.proofs.Math.Path.{refl, ap}
-use Rattle.std.proofs.Common.{◌∙◌, le_antisymm, add-one, arith}
-use Prim.Native.Nat.{ℕ, zero, suc, ◌+◌, ◌≤◌, ◌<◌}
-use borrow.Author.Count.{below_more}
+use Rattle.std.specs.Prelude.{false, List, ◌≢◌, ◌≡◌, length, drop, ℕ, zero, suc, ◌+◌, ◌≤◌, ◌<◌, refl}
+use Rattle.std.proofs.Common.{◌∙◌, le_antisymm, add-one, arith, below_more, ap}
 use Rattle.world.specs.Layout.{Valid, same}
 use Rattle.world.specs.Regions.{Region, length_for, size_of, view, on_region, on_each}
 use Rattle.world.specs.Views.{Change, length_view, length_kept, view_same, view_other, past_kept}

@@ -1,11 +1,8 @@
 -- Where the regions lie: each below the length, no two over one another, and the whole within document 01's bound in bytes.
-use Rattle.std.specs.Prelude.{Bool, true, false, ◌≢◌, ◌⊎◌, ◌≡◌, ℕ, zero, suc, ◌+◌, ◌*◌, ◌≤◌, ◌<◌, eqb}
-use Rattle.std.proofs.Common.{true≢false, inl, inr, sym, ap₂, ◌∙◌, mul-le-mul_right, suc-mul, eq-eqb, eqb-true}
-use Rattle.std.proofs.Math.Logic.{by_cases}
-use Rattle.std.proofs.Math.Path.{refl}
-use Rattle.std.proofs.Math.Nat.{mul-le-mul_left}
+use Rattle.std.specs.Prelude.{Bool, true, false, ◌≢◌, ◌⊎◌, ◌≡◌, ℕ, zero, suc, ◌+◌, ◌*◌, ◌≤◌, ◌<◌, eqb, refl}
+use Rattle.std.proofs.Common.{true≢false, inl, inr, sym, ap₂, ◌∙◌, mul-le-mul_right, suc-mul, eq-eqb, eqb-true, arith, mul-le-mul_left}
 use Rattle.std.proofs.Math.Decide.{dec_lt, le_ind}
-use native.Mathlib.Omega.{arith}
+use Rattle.std.proofs.Math.Logic.{by_cases}
 use Rattle.base.specs.Arith.{next_power, next_least}
 use Rattle.base.specs.Below.{first, first_from}
 use Rattle.base.specs.Choose.{both, both_left, both_right, both_make, refuted}

@@ -1,8 +1,6 @@
 -- The queues as the look is lent them, all in one part of the memory.
 use Rattle.std.specs.Prelude.{List, ◌≡◌, ℕ, ◌*◌, ◌<◌}
-use Rattle.std.proofs.Math.Path.{ap₂}
-use Rattle.std.proofs.Math.Nat.{mul-le-mul_right, suc-mul}
-use Rattle.std.proofs.Common.{arith}
+use Rattle.std.proofs.Common.{ap₂, mul-le-mul_right, suc-mul, arith}
 use Rattle.base.specs.AllLaws.{all_ext}
 use Rattle.base.specs.Choose.{both}
 use Rattle.base.specs.Part.{part, part-part}

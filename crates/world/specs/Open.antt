@@ -1,10 +1,7 @@
 -- Opening: 21 first (a number out of range, a quota over M, a wrong count of quotas), then 26 for a short length only. An opening
 -- writes the head, the first eight words of each space and the length of each queue; every other word stays as it was.
-use Rattle.std.specs.Prelude.{Bool, List, [], ◌∷◌, ◌++◌, ◌≡◌, ℕ, ◌≤◌, ◌<◌, eqb, leb, get_or, drop, set}
-use Rattle.std.proofs.Math.Bool.{true, not}
-use Rattle.std.proofs.Common.{arith}
-use borrow.Author.Tests.{leb-true, le-leb, eqb-true, eq-eqb}
-use Rattle.std.proofs.Math.ListN.{length}
+use Rattle.std.specs.Prelude.{Bool, List, [], ◌∷◌, ◌++◌, ◌≡◌, ℕ, ◌≤◌, ◌<◌, eqb, leb, get_or, drop, set, true, not, length}
+use Rattle.std.proofs.Common.{arith, leb-true, le-leb, eqb-true, eq-eqb}
 use Rattle.answers.specs.declared.Answer.{Answer}
 use Rattle.answers.specs.declared.Answer.TheVariants.{Done, BadField, BadWorld}
 use Rattle.base.specs.AllLaws.{all_at, all_make}

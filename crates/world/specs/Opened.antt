@@ -1,8 +1,6 @@
 -- What every word is after an opening, region by region.
-use Rattle.std.specs.Prelude.{false, List, ◌≡◌, ℕ, ◌≤◌, ◌<◌, length, get_or, drop}
-use Rattle.std.proofs.Math.Path.{refl, sym, ap}
-use Rattle.std.proofs.Common.{◌∙◌, arith, ne_eqb, length-set}
-use Rattle.std.proofs.Math.ListN.{set, length-drop}
+use Rattle.std.specs.Prelude.{false, List, ◌≡◌, ℕ, ◌≤◌, ◌<◌, length, get_or, drop, refl, set}
+use Rattle.std.proofs.Common.{sym, ap, ◌∙◌, arith, ne_eqb, length-set, length-drop}
 use Rattle.world.specs.Each.{Changes, each_length, each_at, each_other, each_past}
 use Rattle.world.specs.Layout.{Valid, same}
 use Rattle.world.specs.Numbers.{numbers_of, numbers_by_words}

@@ -1,7 +1,6 @@
 -- What an opening leaves is sound: each table has 0 slots, nothing is registered, recycled or logged, and every queue is free.
-use Rattle.std.specs.Prelude.{true, List, ◌≡◌, refl, ℕ, ◌≤◌, ◌<◌, length}
+use Rattle.std.specs.Prelude.{true, List, ◌≡◌, refl, ℕ, ◌≤◌, ◌<◌, length, get_or}
 use Rattle.std.proofs.Common.{ap, ◌∙◌, arith, get_or-set_same}
-use Rattle.std.proofs.Math.ListN.{get_or}
 use Rattle.base.specs.SumLaws.{sum-zero}
 use Rattle.table.specs.Sound.{no_slots}
 use Rattle.space.specs.Sound.{SoundSpace}

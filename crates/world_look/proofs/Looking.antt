@@ -1,12 +1,5 @@
 -- The exits of the look's tests of the head, in the words of the code.
-use mathlib.Core.Bool.{true}
-use mathlib.Core.Bool.{Bool, false}
-use mathlib.Core.List.{List}
-use mathlib.Core.Path.{◌≡◌, sym, ◌∙◌}
-use Prim.Native.Nat.{ℕ, ◌≤◌, ◌<◌}
-use native.Mathlib.Omega.{arith}
-use lib.Dec.{leb}
-use lib.ListN.{length}
+use Rattle.std.proofs.Common.{true, Bool, false, List, ◌≡◌, sym, ◌∙◌, ℕ, ◌≤◌, ◌<◌, arith, leb, length}
 use Rattle.base.specs.Choose.{both}
 use Rattle.world.specs.Numbers.{InRange, in_range_test, in_range}
 use Rattle.world.specs.Regions.{length_for}

@@ -1,8 +1,7 @@
 -- The look's pass over the spaces counts each entry at the place of its id. In sound tables ids differ, so what it counts for an id is
 -- the spaces that have an entry of that id.
 use Rattle.std.specs.Prelude.{◌≡◌, refl, Bool, true, false, not, List, ℕ, zero, suc, ◌+◌, ◌*◌, ◌<◌, ◌≤◌, eqb, leb, length, get_or, take}
-use Rattle.std.proofs.Common.{sym, ap, ◌∙◌, add-zero, add-suc, arith, eqb-true, length-take-le, get_or-take}
-use Rattle.std.proofs.Math.Numerals.{add-one}
+use Rattle.std.proofs.Common.{sym, ap, ◌∙◌, add-zero, add-suc, arith, eqb-true, length-take-le, get_or-take, add-one}
 use Rattle.base.specs.AllLaws.{all_more, all_ext}
 use Rattle.base.specs.Below.{all, sum, one}
 use Rattle.base.specs.Choose.{pick, both, both_left, both_right, both_true, both_false, refuted}

@@ -1,5 +1,5 @@
 -- The descent, then of it what is not revoked yet.
-use native.Mathlib.Omega.{arith}
+use Rattle.std.proofs.Common.{arith}
 use Rattle.steps.proofs.laws.Ready.{ready_at}
 use Rattle.cascade.proofs.cascade_places.Goals as goal
 

@@ -1,14 +1,6 @@
 -- The cascade stands at the front of `order`, its ids at the front of `ids`, and of these the pairs that the log has not at the front of
 -- `pairs`: so what `revoke_listed` answers and leaves by these lists is what a revocation does.
-use borrow.Author.Rules.{rules}
-use borrow.Author.Tests.{eq-eqb, ne_eqb}
-use mathlib.Core.List.{List}
-use mathlib.Core.Logic.{◌≢◌}
-use mathlib.Core.Path.{◌≡◌, refl, sym, ap, ◌∙◌}
-use Prim.Native.Nat.{ℕ, ◌%◌, ◌<◌}
-use native.Mathlib.Omega.{arith}
-use lib.ListN.{length, take}
-use lib.Seq.{length-take-le}
+use Rattle.std.proofs.Common.{rules, eq-eqb, ne_eqb, List, ◌≢◌, ◌≡◌, refl, sym, ap, ◌∙◌, ℕ, ◌%◌, ◌<◌, arith, length, take, length-take-le}
 use Rattle.base.specs.Choose.{when_yes, when_no}
 use Rattle.base.specs.Written.{written, take_written}
 use Rattle.registry.specs.Children.{ids_at}
@@ -75,19 +67,27 @@ keep_absent-absent-requires-clause-ready c =
 pub revoke_listed-requires : goal.revoke_listed-requires
 revoke_listed-requires c =
     let (sound, inside) = c.requires in
-    let (places, few) = c.cascade_places-count.ensures.order_after in let below = c.cascade_places-count.ensures.all_below in
-    let not_None = some _ _ _ _ c.state_at.ensures _ _ places (order_counted (goal.at.revoke_listed-requires c).After-cascade_places-count) sound inside c.if-state_at-eq1.false in (
+    let (places, few) = c.cascade_places-count.ensures.order_after in
+    let below = c.cascade_places-count.ensures.all_below in
+    let not_None = some _ _ _ _ c.state_at.ensures _ _ places
+    (order_counted (goal.at.revoke_listed-requires c).After-cascade_places-count) sound inside c.if-state_at-eq1.false in (
       sound,
       below,
       rw (ids_counted (goal.at.revoke_listed-requires c).After-ids_at) not_None,
-      omega (arith, pairs_counted (goal.at.revoke_listed-requires c).After-keep_absent-absent, c.keep_absent-absent.ensures.upper_bound, sound.in_range.places),
+      omega (
+        arith,
+        pairs_counted (goal.at.revoke_listed-requires c).After-keep_absent-absent,
+        c.keep_absent-absent.ensures.upper_bound,
+        sound.in_range.places,
+      ),
     )
 
 pub returns : goal.returns
 unfolding revoking
 returns c =
     let state = c.state_at.ensures in
-    let (places, few) = c.cascade_places-count.ensures.order_after in let below = c.cascade_places-count.ensures.all_below in
+    let (places, few) = c.cascade_places-count.ensures.order_after in
+    let below = c.cascade_places-count.ensures.all_below in
     let ids = listed_ids _ _ _ _ state _ _ places (order_counted (goal.at.returns c).After-cascade_places-count) _ _ c.ids_at.ensures in
     let pairs = rw ids at c.keep_absent-absent.ensures.pairs_after in
     rw (places, ids, pairs) at c.revoke_listed.ensures ∙ sym (when_no _ _ _ (ne_eqb _ 1 (rw state at c.if-state_at-eq1.false)))

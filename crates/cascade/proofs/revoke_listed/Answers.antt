@@ -1,7 +1,5 @@
 -- The refusals in their order; then the places are revoked.
-use borrow.Author.Tests.{lt-ltb, le-ltb}
-use mathlib.Core.Path.{refl, ◌∙◌}
-use native.Mathlib.Omega.{arith}
+use Rattle.std.proofs.Common.{lt-ltb, le-ltb, refl, ◌∙◌, arith}
 use Rattle.base.specs.Choose.{when_yes, when_no}
 use Rattle.steps.proofs.Leaving.{left_is}
 use Rattle.steps.proofs.laws.Ready.{ready_at, queues_ready_at}

@@ -1,10 +1,5 @@
 -- Each step leaves the memory ready for the next; the last is lent the ids from the second on.
-use mathlib.Core.List.{List}
-use mathlib.Core.Path.{◌≡◌}
-use Prim.Native.Nat.{ℕ, ◌+◌, ◌-◌, ◌%◌, ◌^◌, ◌≤◌}
-use native.Mathlib.Omega.{arith}
-use lib.ListN.{length, get_or, take, drop, length-drop}
-use lib.Seq.{take_all}
+use Rattle.std.proofs.Common.{List, ◌≡◌, ℕ, ◌+◌, ◌-◌, ◌%◌, ◌^◌, ◌≤◌, arith, length, get_or, take, drop, length-drop, take_all}
 use Rattle.registry.specs.Descent.{marked}
 use Rattle.registry.specs.PlaceLists.{AllBelow}
 use Rattle.revocation_steps.specs.Revocation.{log_step, notify_all}
@@ -60,11 +55,13 @@ module _ (d : Numbers) (mem order : List ℕ)
 
 pub append_pairs-requires : goal.append_pairs-requires
 append_pairs-requires c =
-    let (ready, queues, inside) = c.requires.ready in let (fits, some) = c.requires.pairs_bound in
+    let (ready, queues, inside) = c.requires.ready in
+    let (fits, some) = c.requires.pairs_bound in
     can_log _ _ _ _ c.mark.ensures _ c.add.ensures ready inside _ fits
 
 pub notify_all-requires : goal.notify_all-requires
 notify_all-requires c =
-    let (ready, queues, inside) = c.requires.ready in let (fits, some) = c.requires.pairs_bound in
+    let (ready, queues, inside) = c.requires.ready in
+    let (fits, some) = c.requires.pairs_bound in
     can_notify _ _ _ _ c.mark.ensures _ c.add.ensures _ _ c.append_pairs.ensures _ c.add-2.ensures ready queues
     inside fits

@@ -1,9 +1,5 @@
 -- On a sound memory no call but an opening is given 26.
-use mathlib.Core.Bool.{false, true≢false}
-use mathlib.Core.List.{List}
-use mathlib.Core.Logic.{◌↔◌, ◌≢◌}
-use mathlib.Core.Path.{◌≡◌}
-use Prim.Native.Nat.{ℕ}
+use Rattle.std.proofs.Common.{false, true≢false, List, ◌↔◌, ◌≢◌, ◌≡◌, ℕ}
 use Rattle.answers.specs.declared.Answer.{Answer}
 use Rattle.answers.specs.declared.Answer.TheVariants.{BadWorld}
 use Rattle.steps.proofs.laws.Told.{Told}

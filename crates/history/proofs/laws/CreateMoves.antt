@@ -1,10 +1,5 @@
 -- The manager's create pays for the moves in space s, whatever it answers.
-use mathlib.Core.Bool.{Bool}
-use mathlib.Core.List.{List}
-use mathlib.Core.Path.{sym, subst}
-use Prim.Native.Nat.{ℕ, ◌^◌, ◌≤◌, ◌<◌}
-use native.Mathlib.Omega.{arith}
-use lib.Dec.{eqb}
+use Rattle.std.proofs.Common.{Bool, List, sym, subst, ℕ, ◌^◌, ◌≤◌, ◌<◌, arith, eqb}
 use Rattle.answers.specs.Number.{number_of}
 use Rattle.base.specs.Below.{one}
 use Rattle.manager_calls.specs.Calls.{create_out}

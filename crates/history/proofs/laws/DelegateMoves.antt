@@ -1,14 +1,7 @@
 -- Delegate pays for the moves in space s, whatever it answers. A new child, whose entry the target accepted, is told by the statistic of
 -- delegations: it counts in 64 bits, so it differs then, and every step before leaves it as it was.
-use mathlib.Core.Bool.{not}
-use mathlib.Core.List.{List}
-use mathlib.Core.Logic.{◌≢◌}
-use mathlib.Core.Path.{◌≡◌, refl, sym, subst, ◌∙◌}
-use Prim.Native.Nat.{ℕ, suc, ◌^◌, ◌<◌}
-use native.Mathlib.Omega.{arith}
-use borrow.Author.Tests.{ne_eqb}
+use Rattle.std.proofs.Common.{not, List, ◌≢◌, ◌≡◌, refl, sym, subst, ◌∙◌, ℕ, suc, ◌^◌, ◌<◌, arith, ne_eqb, eqb}
 use lib.Bits.{and_le_r}
-use lib.Dec.{eqb}
 use Rattle.base.specs.Below.{one}
 use Rattle.delegation_calls.proofs.Offering.{offered_by_lookups}
 use Rattle.delegation_calls.specs.Delegation.{delegate_out}

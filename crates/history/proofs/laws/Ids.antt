@@ -1,10 +1,6 @@
 -- An id that was issued and not given back is never issued again: through any calls it stays so, until it is deleted itself or the memory
 -- is opened anew; and each call that issues an id issues none such (`create_new`, `delegate_new`, `alloc_new`, `space_create_new`).
-use mathlib.Core.Bool.{false}
-use mathlib.Core.List.{List, [], ◌∷◌}
-use mathlib.Core.Logic.{◌≢◌, ◌⊎◌}
-use mathlib.Core.Path.{◌≡◌, refl, sym, subst}
-use Prim.Native.Nat.{ℕ}
+use Rattle.std.proofs.Common.{false, List, [], ◌∷◌, ◌≢◌, ◌⊎◌, ◌≡◌, refl, sym, subst, ℕ}
 use Rattle.answers.specs.declared.Answer.TheVariants.{Done}
 use Rattle.manager_calls.specs.Calls.{delete_out}
 use Rattle.manager_laws.proofs.laws.Ids as manager

@@ -1,9 +1,6 @@
 -- Every call keeps a sound memory sound and of its length, so every history does; and until an opening is given 0, its numbers and every
 -- word past the regions.
-use mathlib.Core.Bool.{Bool, true, false, true≢false}
-use mathlib.Core.List.{List, [], ◌∷◌}
-use mathlib.Core.Path.{◌≡◌, refl, sym, subst, ◌∙◌}
-use Prim.Native.Nat.{ℕ}
+use Rattle.std.proofs.Common.{Bool, true, false, true≢false, List, [], ◌∷◌, ◌≡◌, refl, sym, subst, ◌∙◌, ℕ}
 use Rattle.base.specs.Choose.{pick}
 use Rattle.steps.proofs.laws.Kept.{Kept, kept_refl, kept_sound}
 use Rattle.space_laws.proofs.laws.Sound as space

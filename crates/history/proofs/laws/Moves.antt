@@ -1,11 +1,6 @@
 -- All moves of a space are paid: over any history until an opening is given 0, what its rebuilds moved, with the potential it has then, is
 -- at most the potential that it had and 3 for each entry accepted. In a world just opened there is none.
-use mathlib.Core.Bool.{false}
-use mathlib.Core.List.{List, [], ◌∷◌}
-use mathlib.Core.Path.{◌≡◌, sym, ap, subst, ◌∙◌}
-use Prim.Native.Nat.{ℕ, ◌+◌, ◌*◌, ◌≤◌, ◌<◌}
-use native.Mathlib.Omega.{arith}
-use lib.ListN.{length}
+use Rattle.std.proofs.Common.{false, List, [], ◌∷◌, ◌≡◌, sym, ap, subst, ◌∙◌, ℕ, ◌+◌, ◌*◌, ◌≤◌, ◌<◌, arith, length}
 use Rattle.manager_calls.specs.Calls.{delete_out, check_out}
 use Rattle.manager_laws.proofs.laws.StepsKept.{deleted_kept}
 use Rattle.manager_laws.proofs.laws.Ways.{delete_by_cases, check_by_cases}

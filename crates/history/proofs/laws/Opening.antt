@@ -1,13 +1,7 @@
 -- What an opening leaves: given 0, a sound memory of its numbers, with its length and the words past the regions as they were; refused, all
 -- as it was.
-use mathlib.Core.Bool.{false}
-use mathlib.Core.List.{List}
-use mathlib.Core.Path.{◌≡◌, refl, ap}
-use Prim.Native.Nat.{ℕ, ◌≤◌}
-use native.Mathlib.Omega.{arith}
+use Rattle.std.proofs.Common.{false, List, ◌≡◌, refl, ap, ℕ, ◌≤◌, arith, eqb, length}
 use borrow.Author.Tests.{eqb-false}
-use lib.Dec.{eqb}
-use lib.ListN.{length}
 use Rattle.answers.specs.Number.{number_of}
 use Rattle.answers.specs.declared.Answer.TheVariants.{Done}
 use Rattle.world.specs.Open.{OpenOut, opened, opening, good_test}

@@ -1,8 +1,5 @@
 -- No step of revocation gives an id back, so none of its calls does (`Steady`): the next id and the recycled ids are as they were.
-use mathlib.Core.List.{List}
-use mathlib.Core.Path.{ap}
-use Prim.Native.Nat.{ℕ, ◌≤◌, ◌<◌}
-use native.Mathlib.Omega.{arith}
+use Rattle.std.proofs.Common.{List, ap, ℕ, ◌≤◌, ◌<◌, arith}
 use Rattle.manager_laws.proofs.laws.SameIds.{SameIds, lookup_ids}
 use Rattle.manager_laws.proofs.laws.Spent.{NoneFreed, none_refl, none_trans, none_same}
 use Rattle.registry.specs.Words.{recycled_at}

@@ -1,6 +1,6 @@
 -- No step of revocation raises a potential, so none of its calls does (`Steady`): it leaves every space as it was, but for the lookup of a
 -- held revoke.
-use Prim.Native.Nat.{ℕ, ◌<◌}
+use Rattle.std.proofs.Common.{ℕ, ◌<◌}
 use Rattle.revocation_calls.proofs.laws.RevokingWays.{new_pair}
 use Rattle.revocation_laws.proofs.laws.Steady.{Steady}
 use Rattle.revocation_steps.proofs.laws.CascadeSteps.{revoke_step_space}

@@ -1,14 +1,6 @@
 -- On a sound memory every walk of a call visits at most one slot more than the live and removed entries that its table has when it
 -- begins. Each moment of a call at which a walk begins is sound again, so it is enough that walks of sound tables are short.
-use mathlib.Core.Bool.{Bool, true, false}
-use mathlib.Core.List.{List, [], ◌∷◌}
-use mathlib.Core.Path.{◌≡◌, refl}
-use Prim.Native.Nat.{ℕ, zero, suc, ◌+◌, ◌*◌, ◌≤◌, ◌<◌}
-use native.Mathlib.Nat.{zero-add}
-use native.Mathlib.Omega.{arith}
-use borrow.Author.Tests.{eqb-true}
-use lib.Dec.{eqb}
-use lib.ListN.{length}
+use Rattle.std.proofs.Common.{Bool, true, false, List, [], ◌∷◌, ◌≡◌, refl, ℕ, zero, suc, ◌+◌, ◌*◌, ◌≤◌, ◌<◌, zero-add, arith, eqb-true, eqb, length}
 use Rattle.base.specs.Choose.{pick, both_left}
 use Rattle.registry.specs.Words.{revoked}
 use Rattle.space.proofs.laws.Kept.{long}

@@ -1,12 +1,6 @@
 -- Ids and the calls of a space: none gives an id back; and `alloc_cap_id` and the space-made create issue none that is issued and not
 -- given back.
-use mathlib.Core.Bool.{true}
-use mathlib.Core.List.{List}
-use mathlib.Core.Logic.{◌≢◌}
-use mathlib.Core.Path.{◌≡◌, refl, sym, ap, subst}
-use Prim.Native.Nat.{ℕ, ◌^◌, ◌<◌}
-use native.Mathlib.Omega.{arith}
-use lib.Dec.{eqb}
+use Rattle.std.proofs.Common.{true, List, ◌≢◌, ◌≡◌, refl, sym, ap, subst, ℕ, ◌^◌, ◌<◌, arith, eqb}
 use Rattle.answers.specs.Number.{number_of}
 use Rattle.answers.specs.declared.Answer.{Answer}
 use Rattle.answers.specs.declared.Answer.TheVariants.{Done}

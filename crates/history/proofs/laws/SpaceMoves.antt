@@ -1,6 +1,5 @@
 -- Every call of a space pays for the moves in space s, whatever it answers.
-use mathlib.Core.List.{List}
-use Prim.Native.Nat.{ℕ, ◌^◌, ◌<◌}
+use Rattle.std.proofs.Common.{List, ℕ, ◌^◌, ◌<◌}
 use Rattle.answers.specs.declared.Answer.{Answer}
 use Rattle.history.specs.Counts.{given0}
 use Rattle.base.specs.Cases.{unless_below}

@@ -1,11 +1,6 @@
 -- What each change of a space pays for its moves: an accepted entry pays 3, a copy 3 for each of its entries, and these cover the moves and
 -- what the table's potential rises by; no other change raises it.
-use mathlib.Core.List.{List}
-use mathlib.Core.Path.{◌≡◌, refl, ap}
-use Prim.Native.Nat.{ℕ, ◌+◌, ◌*◌, ◌≤◌}
-use native.Mathlib.Omega.{arith}
-use lib.Dec.{eqb}
-use lib.ListN.{length}
+use Rattle.std.proofs.Common.{List, ◌≡◌, refl, ap, ℕ, ◌+◌, ◌*◌, ◌≤◌, arith, eqb, length}
 use Rattle.answers.specs.Number.{number_of}
 use Rattle.base.specs.Below.{one}
 use Rattle.space.specs.Change.{InsertOut, insert_out, removed_found, removed_token, cleared, next_generation}

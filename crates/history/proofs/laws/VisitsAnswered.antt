@@ -1,10 +1,7 @@
 -- The visits that a call answers are those of its search in the space: from the definitions of the calls, on a sound memory and a space
 -- that there is, whatever was found.
-use mathlib.Core.List.{List}
-use mathlib.Core.Path.{◌≡◌, refl, ap, ◌∙◌}
-use Prim.Native.Nat.{ℕ, ◌^◌, ◌<◌}
-use borrow.Author.Tests.{lt-leb, le-ltb}
-use lib.ListN.{length}
+use Rattle.std.proofs.Common.{List, ◌≡◌, refl, ap, ◌∙◌, ℕ, ◌^◌, ◌<◌, le-ltb, length}
+use Rattle.std.proofs.lemmas.Bool.{lt-leb}
 use Rattle.answers.specs.declared.Answer.{Answer}
 use Rattle.answers.specs.declared.Answer.TheVariants.{BadField}
 use Rattle.base.specs.Choose.{when_no}

@@ -1,11 +1,6 @@
 -- The entry of the id registered last goes into the space if the space accepts it; if not, the id leaves the registry again. A space
 -- accepts an entry under its quota, of an id that is not there yet (`Accepts`).
-use mathlib.Core.List.{List}
-use mathlib.Core.Logic.{◌≢◌, ◌⊎◌, inl, inr}
-use mathlib.Core.Path.{◌≡◌, refl, ap}
-use Prim.Native.Nat.{ℕ, ◌-◌}
-use native.Mathlib.Omega.{arith}
-use borrow.Author.Tests.{eq-eqb, ne_eqb}
+use Rattle.std.proofs.Common.{List, ◌≢◌, ◌⊎◌, inl, inr, ◌≡◌, refl, ap, ℕ, ◌-◌, arith, eq-eqb, ne_eqb}
 use Rattle.answers.specs.Number.{number_of}
 use Rattle.answers.specs.declared.Answer.TheVariants.{Done, OutOfMemory}
 use Rattle.space.specs.Change.{InsertOut, insert_out}

@@ -1,15 +1,9 @@
 -- What the census and the statistics of derivation count: the live entries of a space whose id is not registered, the ids that have a list
 -- of children, and the children.
-use mathlib.Core.Bool.{Bool, true, false, not}
-use mathlib.Core.List.{List, ◌∷◌}
-use mathlib.Core.Logic.{◌↔◌, ◌≢◌, by_cases}
-use mathlib.Core.Path.{◌≡◌, refl, ap, ◌∙◌}
-use Prim.Native.Nat.{ℕ, zero, suc, ◌+◌, ◌<◌, ◌≤◌}
-use native.Mathlib.Decide.{dec_lt}
-use native.Mathlib.Nat.{add-zero, add-suc, suc-add, zero-add}
-use native.Mathlib.Omega.{arith}
-use borrow.Author.Tests.{ltb-false, le-ltb, not-true}
-use lib.Dec.{eqb, ltb}
+use Rattle.std.proofs.Common.{Bool, true, false, not, List, ◌∷◌, ◌↔◌, ◌≢◌, ◌≡◌, refl, ap, ◌∙◌, ℕ, zero, suc, ◌+◌, ◌<◌, ◌≤◌, add-zero, add-suc, suc-add, zero-add, arith, ltb-false, le-ltb, eqb, ltb}
+use Rattle.std.proofs.Math.Decide.{dec_lt}
+use Rattle.std.proofs.Math.Logic.{by_cases}
+use Rattle.std.proofs.lemmas.Bool.{not-true}
 use Rattle.base.specs.Below.{sum, one}
 use Rattle.base.specs.Choose.{pick, both}
 use Rattle.base.specs.Exactly.{eqb_exactly, unequal_exactly, both_exactly}

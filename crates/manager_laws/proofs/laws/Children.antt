@@ -1,11 +1,6 @@
 -- `get_children` given 0: the ids of the children in list order, in front of the area. List order is the order of their places in the
 -- registry, which is the order of registration.
-use mathlib.Core.List.{List}
-use mathlib.Core.Logic.{◌↔◌}
-use mathlib.Core.Path.{◌≡◌, refl, sym, ap, ◌∙◌}
-use Prim.Native.Nat.{ℕ, ◌<◌}
-use native.Mathlib.Omega.{arith}
-use lib.ListN.{length, get_or}
+use Rattle.std.proofs.Common.{List, ◌↔◌, ◌≡◌, refl, sym, ap, ◌∙◌, ℕ, ◌<◌, arith, length, get_or}
 use Rattle.answers.specs.Number.{number_of}
 use Rattle.answers.specs.declared.Answer.TheVariants.{Done}
 use Rattle.base.specs.Members.{In}

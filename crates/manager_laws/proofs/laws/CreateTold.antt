@@ -1,11 +1,6 @@
 -- When each answer of create is given: 26 exactly on memory that is not sound, 20 exactly on a sound one for a space number of S or more,
 -- and 21, 5, 9, 22, 4 and 0 exactly in their stated cases.
-use mathlib.Core.Bool.{Bool, false}
-use mathlib.Core.List.{List}
-use mathlib.Core.Logic.{◌↔◌}
-use mathlib.Core.Path.{◌≡◌, sym, ap, subst, ◌∙◌}
-use Prim.Native.Nat.{ℕ, ◌≤◌, ◌<◌}
-use lib.Dec.{eqb}
+use Rattle.std.proofs.Common.{Bool, false, List, ◌↔◌, ◌≡◌, sym, ap, subst, ◌∙◌, ℕ, ◌≤◌, ◌<◌, eqb}
 use Rattle.answers.specs.Number.{number_of}
 use Rattle.answers.specs.declared.Answer.{Answer}
 use Rattle.answers.specs.declared.Answer.TheVariants.{Done, OutOfMemory, InvalidObject, IdExhausted, BadSpace, BadField, RegistryFull, BadWorld}

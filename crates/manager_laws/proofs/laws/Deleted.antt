@@ -1,12 +1,6 @@
 -- What a delete given 0 does, in ids: exactly its id leaves the registry, entries in spaces stay, its children have no parent then, and
 -- every other id keeps its object, its state and its parent.
-use mathlib.Core.List.{List}
-use mathlib.Core.Logic.{◌↔◌, ◌≢◌}
-use mathlib.Core.Path.{◌≡◌, sym, ap, subst, ◌∙◌}
-use Prim.Native.Nat.{ℕ, suc, ◌+◌, ◌-◌, ◌*◌, ◌%◌, ◌^◌, ◌≤◌, ◌<◌}
-use native.Mathlib.Omega.{arith}
-use borrow.Author.Tests.{le-ltb, ne_eqb}
-use lib.ListN.{length, get_or}
+use Rattle.std.proofs.Common.{List, ◌↔◌, ◌≢◌, ◌≡◌, sym, ap, subst, ◌∙◌, ℕ, suc, ◌+◌, ◌-◌, ◌*◌, ◌%◌, ◌^◌, ◌≤◌, ◌<◌, arith, le-ltb, ne_eqb, length, get_or}
 use Rattle.answers.specs.Number.{number_of}
 use Rattle.answers.specs.declared.Answer.TheVariants.{Done}
 use Rattle.registry.specs.Holders.{place_of}

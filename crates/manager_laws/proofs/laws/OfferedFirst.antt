@@ -1,13 +1,6 @@
 -- The child that a delegation returns: the first in list order that the target holds with exactly its token and the rights; where none is
 -- returned there is none. The lookups on the way count, and change nothing of this.
-use mathlib.Core.Bool.{Bool, true, false, true≢false}
-use mathlib.Core.List.{List}
-use mathlib.Core.Logic.{◌↔◌, ⊎_elim}
-use mathlib.Core.Path.{◌≡◌, refl, sym, ap, subst, ◌∙◌}
-use Prim.Native.Nat.{ℕ, zero, suc, ◌+◌, ◌<◌, ◌≤◌}
-use native.Mathlib.Nat.{eq-or-lt_of_le}
-use native.Mathlib.Omega.{arith}
-use lib.Dec.{eqb}
+use Rattle.std.proofs.Common.{Bool, true, false, true≢false, List, ◌↔◌, ⊎_elim, ◌≡◌, refl, sym, ap, subst, ◌∙◌, ℕ, zero, suc, ◌+◌, ◌<◌, ◌≤◌, eq-or-lt_of_le, arith, eqb}
 use Rattle.base.specs.Choose.{both}
 use Rattle.base.specs.Exactly.{eqb_exactly, both_exactly}
 use Rattle.registry.specs.Words.{revoked, child_of}

@@ -1,10 +1,5 @@
 -- A child of a good parent can be recorded: once its id is taken, the parent is still registered and unrevoked, and its list has room.
-use mathlib.Core.List.{List}
-use mathlib.Core.Path.{◌≡◌, ◌∙◌}
-use Prim.Native.Nat.{ℕ, suc, ◌<◌}
-use native.Mathlib.Omega.{arith}
-use borrow.Author.Tests.{eqb-true}
-use lib.Dec.{eqb}
+use Rattle.std.proofs.Common.{List, ◌≡◌, ◌∙◌, ℕ, suc, ◌<◌, arith, eqb-true, eqb}
 use Rattle.base.specs.Choose.{both_left}
 use Rattle.registry.specs.Words.{revoked}
 use Rattle.steps.specs.Steps.{take_step, list_step, children_of}

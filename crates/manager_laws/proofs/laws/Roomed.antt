@@ -1,14 +1,8 @@
 -- The memory in which a delegation counts the parent's children: after the collection where there were 1,024, else as it is. 10 is given
 -- exactly if 1,024 remain in it; else an id is taken there.
-use mathlib.Core.Bool.{not}
-use mathlib.Core.List.{List}
-use mathlib.Core.Logic.{by_cases}
-use mathlib.Core.Path.{◌≡◌, refl, ap}
-use Prim.Native.Nat.{ℕ, ◌≤◌, ◌<◌}
-use native.Mathlib.Decide.{dec_lt}
-use native.Mathlib.Omega.{arith}
-use borrow.Author.Tests.{lt-ltb, le-ltb}
-use lib.Dec.{ltb}
+use Rattle.std.proofs.Common.{not, List, ◌≡◌, refl, ap, ℕ, ◌≤◌, ◌<◌, arith, lt-ltb, le-ltb, ltb}
+use Rattle.std.proofs.Math.Decide.{dec_lt}
+use Rattle.std.proofs.Math.Logic.{by_cases}
 use Rattle.answers.specs.declared.Answer.TheVariants.{QuotaExceeded}
 use Rattle.base.specs.Choose.{pick, when_yes, when_no}
 use Rattle.steps.specs.Replies.{refuse}

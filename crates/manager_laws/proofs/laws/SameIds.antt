@@ -1,9 +1,5 @@
 -- Every step but taking an id and recycling one leaves the next id and the recycled ids as they were.
-use mathlib.Core.List.{List}
-use mathlib.Core.Path.{◌≡◌, refl, ap, ◌∙◌}
-use Prim.Native.Nat.{ℕ, ◌+◌, ◌*◌, ◌^◌, ◌≤◌, ◌<◌}
-use native.Mathlib.Omega.{arith}
-use lib.ListN.{length}
+use Rattle.std.proofs.Common.{List, ◌≡◌, refl, ap, ◌∙◌, ℕ, ◌+◌, ◌*◌, ◌^◌, ◌≤◌, ◌<◌, arith, length}
 use Rattle.registry.proofs.CollectionLaws.{collected_before}
 use Rattle.registry.specs.RegisteringLaws.{registered_other, list_given_only}
 use Rattle.registry.specs.StatesOnly.{same_recycled}

@@ -1,14 +1,8 @@
 -- A lookup, taking an id and giving one back leave the registered ids as they were, with all that stands in their places. Then each id
 -- keeps its place, each place its children, and a token is as valid as before.
-use mathlib.Core.List.{List}
-use mathlib.Core.Logic.{by_cases}
-use mathlib.Core.Path.{◌≡◌, refl, ap, ◌∙◌}
-use Prim.Native.Nat.{ℕ, ◌+◌, ◌*◌, ◌≤◌, ◌<◌}
-use native.Mathlib.Decide.{dec_lt}
-use native.Mathlib.Omega.{arith}
-use borrow.Author.Tests.{le-ltb}
-use lib.Dec.{eqb, ltb}
-use lib.ListN.{length, get_or}
+use Rattle.std.proofs.Common.{List, ◌≡◌, refl, ap, ◌∙◌, ℕ, ◌+◌, ◌*◌, ◌≤◌, ◌<◌, arith, le-ltb, eqb, ltb, length, get_or}
+use Rattle.std.proofs.Math.Decide.{dec_lt}
+use Rattle.std.proofs.Math.Logic.{by_cases}
 use Rattle.base.specs.Choose.{both}
 use Rattle.base.specs.FirstLaws.{first_ext}
 use Rattle.registry.specs.Holders.{place_of}

@@ -1,12 +1,6 @@
 -- A delegated token's rights lie within both sets: whether new or held already, the target holds it with the bits that the delegator's
 -- entry and the given rights have in common.
-use mathlib.Core.Bool.{true, true≢false}
-use mathlib.Core.List.{List}
-use mathlib.Core.Logic.{⊎_elim}
-use mathlib.Core.Path.{◌≡◌, refl, sym, ap, subst, ◌∙◌}
-use Prim.Native.Nat.{ℕ, ◌^◌, ◌<◌}
-use native.Mathlib.Omega.{arith}
-use borrow.Author.Tests.{eqb-true}
+use Rattle.std.proofs.Common.{true, true≢false, List, ⊎_elim, ◌≡◌, refl, sym, ap, subst, ◌∙◌, ℕ, ◌^◌, ◌<◌, arith, eqb-true}
 use Rattle.answers.specs.declared.Answer.TheVariants.{Done}
 use Rattle.space.specs.Lookup.{looked_up}
 use Rattle.space.proofs.laws.Counted.{used, found_again}

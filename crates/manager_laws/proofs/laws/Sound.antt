@@ -1,9 +1,5 @@
 -- Every call keeps a sound memory sound, with its numbers, its length and every word past the regions (`Kept`), whatever it answers.
-use mathlib.Core.Bool.{Bool}
-use mathlib.Core.List.{List}
-use mathlib.Core.Path.{sym, subst}
-use Prim.Native.Nat.{ℕ, ◌^◌, ◌<◌}
-use native.Mathlib.Omega.{arith}
+use Rattle.std.proofs.Common.{Bool, List, sym, subst, ℕ, ◌^◌, ◌<◌, arith}
 use lib.Bits.{and_le_r}
 use Rattle.steps.specs.Steps.{lookup_step, take_step}
 use Rattle.steps.proofs.laws.Called.{Keeps}

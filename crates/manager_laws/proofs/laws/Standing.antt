@@ -1,13 +1,7 @@
 -- What stands after a create or a delegate that made a token: its id is registered, unrevoked, with its object, its parent and no list of
 -- its own, and the space holds the token with its rights.
-use mathlib.Core.Bool.{Bool}
-use mathlib.Core.List.{List}
-use mathlib.Core.Logic.{◌⊎◌, inl, inr}
-use mathlib.Core.Path.{◌≡◌, refl, ap, subst, ◌∙◌}
-use Prim.Native.Nat.{ℕ, suc, ◌+◌, ◌*◌, ◌%◌, ◌^◌, ◌≤◌, ◌<◌}
-use native.Mathlib.Omega.{arith}
+use Rattle.std.proofs.Common.{Bool, List, ◌⊎◌, inl, inr, ◌≡◌, refl, ap, subst, ◌∙◌, ℕ, suc, ◌+◌, ◌*◌, ◌%◌, ◌^◌, ◌≤◌, ◌<◌, arith, length, get_or}
 use lib.Bits.{and_le_r}
-use lib.ListN.{length, get_or}
 use Rattle.answers.specs.Number.{number_of}
 use Rattle.answers.specs.declared.Answer.TheVariants.{Done}
 use Rattle.registry.specs.HoldersLaws.{HoldersOnly, place_is}

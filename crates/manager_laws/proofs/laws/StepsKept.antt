@@ -1,13 +1,8 @@
 -- What create, delegate and delete do, step by step, keeps a sound memory sound (`Kept`): an id that was taken is registered, and its entry
 -- goes into a space or the id leaves again; or it is given back at once; children are offered; a child is registered under its parent.
-use mathlib.Core.List.{List}
-use mathlib.Core.Logic.{by_cases}
-use mathlib.Core.Path.{◌≡◌, sym, ap, subst, ◌∙◌}
-use Prim.Native.Nat.{ℕ, suc, ◌+◌, ◌-◌, ◌*◌, ◌^◌, ◌≤◌, ◌<◌}
-use native.Mathlib.Decide.{dec_lt}
-use native.Mathlib.Omega.{arith}
-use borrow.Author.Tests.{ne_eqb}
-use lib.ListN.{length}
+use Rattle.std.proofs.Common.{List, ◌≡◌, sym, ap, subst, ◌∙◌, ℕ, suc, ◌+◌, ◌-◌, ◌*◌, ◌^◌, ◌≤◌, ◌<◌, arith, ne_eqb, length}
+use Rattle.std.proofs.Math.Decide.{dec_lt}
+use Rattle.std.proofs.Math.Logic.{by_cases}
 use Rattle.base.specs.Below.{one}
 use Rattle.base.specs.SumLaws.{sum_const_zero}
 use Rattle.registry.proofs.CollectionLaws.{collected_parent}

@@ -1,12 +1,6 @@
 -- What refusals of create, delete and check leave. A refusal's value is 0 and it changes nothing, except: a lookup stays counted; an id
 -- that create took goes to the recycled ones. DelegateTold.antt says it of delegate.
-use mathlib.Core.Bool.{Bool}
-use mathlib.Core.List.{List}
-use mathlib.Core.Logic.{◌≢◌}
-use mathlib.Core.Path.{◌≡◌, refl, sym, ap, subst, ◌∙◌}
-use Prim.Native.Nat.{ℕ, ◌≤◌, ◌<◌}
-use native.Mathlib.Omega.{arith}
-use lib.ListN.{get_or}
+use Rattle.std.proofs.Common.{Bool, List, ◌≢◌, ◌≡◌, refl, sym, ap, subst, ◌∙◌, ℕ, ◌≤◌, ◌<◌, arith, get_or}
 use Rattle.answers.specs.declared.Answer.TheVariants.{Done, OutOfMemory, RegistryFull}
 use Rattle.space.proofs.laws.Insert.{Accepts}
 use Rattle.steps.specs.Replies.{Left}

@@ -1,13 +1,9 @@
 -- An id that leaves the registry again, since its entry was refused: every registered place, space and queue, the log and the head are as
 -- they were before it was registered, and the id is recycled. Of the place that it leaves, which is free again, nothing is said.
-use mathlib.Core.List.{List}
-use mathlib.Core.Logic.Iff
-use mathlib.Core.Logic.{◌↔◌, ◌≢◌, ◌⊎◌, inl, inr, ⊎_elim, by_cases}
-use mathlib.Core.Path.{◌≡◌, sym, subst, ◌∙◌}
-use Prim.Native.Nat.{ℕ, ◌+◌, ◌-◌, ◌*◌, ◌≤◌, ◌<◌}
-use native.Mathlib.Decide.{ℕ_discrete}
-use native.Mathlib.Omega.{arith}
-use lib.ListN.{length, get_or}
+use Rattle.std.proofs.Common.{List, ◌↔◌, ◌≢◌, ◌⊎◌, inl, inr, ⊎_elim, ◌≡◌, sym, subst, ◌∙◌, ℕ, ◌+◌, ◌-◌, ◌*◌, ◌≤◌, ◌<◌, arith, length, get_or}
+use Rattle.std.proofs.Math.Decide.{ℕ_discrete}
+use Rattle.std.proofs.Math.Logic.{by_cases}
+use Rattle.std.proofs.Math.Logic.Iff
 use Rattle.registry.specs.Registering.{registered, unregistered}
 use Rattle.registry.specs.RegisteringLaws.{same_places_trans, registered_other}
 use Rattle.registry.specs.UnregisteringLaws.{unregistered_before}

@@ -1,9 +1,6 @@
 -- The manager's calls that only read: a refusal's value is 0, and a refused list of children leaves the lent area as it was. Unchanged.antt
 -- says it of the others.
-use mathlib.Core.List.{List}
-use mathlib.Core.Logic.{◌≢◌}
-use mathlib.Core.Path.{◌≡◌, refl}
-use Prim.Native.Nat.{ℕ}
+use Rattle.std.proofs.Common.{List, ◌≢◌, ◌≡◌, refl, ℕ}
 use Rattle.answers.specs.declared.Answer.TheVariants.{Done}
 use Rattle.steps.specs.Replies.{WithArea, refusal}
 use Rattle.base.specs.Cases.{either}

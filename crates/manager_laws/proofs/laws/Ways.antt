@@ -1,9 +1,6 @@
 -- The ways through delete and check: what holds of each ending holds of the call. Created.antt and Delegated.antt have the other two calls.
-use mathlib.Core.Bool.{Bool, true, false, not}
-use mathlib.Core.List.{List}
-use mathlib.Core.Path.{◌≡◌, sym, ◌∙◌}
-use Prim.Native.Nat.{ℕ, ◌≤◌, ◌<◌}
-use borrow.Author.Tests.{not-true, not-false}
+use Rattle.std.proofs.Common.{Bool, true, false, not, List, ◌≡◌, sym, ◌∙◌, ℕ, ◌≤◌, ◌<◌}
+use Rattle.std.proofs.lemmas.Bool.{not-true, not-false}
 use Rattle.answers.specs.declared.Answer.{Answer}
 use Rattle.answers.specs.declared.Answer.TheVariants.{Done, InsufficientRights, CapabilityRevoked, NotFound, BadSpace, RecycleFull, BadWorld}
 use Rattle.space.specs.Lookup.{looked_up}

@@ -1,11 +1,4 @@
-use mathlib.Core.Path.{◌≡◌, refl, ap, ◌∙◌}
-use mathlib.Core.List.{List}
-use Prim.Native.Nat.{ℕ, ◌+◌, ◌<◌, ◌≤◌}
-use native.Mathlib.Nat.{le_antisymm}
-use native.Mathlib.Numerals.{add-one}
-use native.Mathlib.Omega.{arith}
-use borrow.Author.Rules.{rules}
-use lib.ListN.{length, get_or}
+use Rattle.std.proofs.Common.{◌≡◌, refl, ap, ◌∙◌, List, ℕ, ◌+◌, ◌<◌, ◌≤◌, le_antisymm, add-one, arith, rules, length, get_or}
 use Rattle.base.specs.Compacted.{fold}
 use Rattle.registry.specs.Counts.{AtMost, count_entry, count_entries, few_entries, length_entries}
 use Rattle.registry_look.proofs.count_entries.Invariants.{Done}

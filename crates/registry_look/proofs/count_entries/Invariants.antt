@@ -1,8 +1,5 @@
 -- `registry_look::count_entries` meets its contract: the entries before j are counted.
-use mathlib.Core.Path.{◌≡◌}
-use mathlib.Core.List.{List}
-use Prim.Native.Nat.{ℕ, ◌-◌, ◌≤◌}
-use lib.ListN.{length}
+use Rattle.std.proofs.Common.{◌≡◌, List, ℕ, ◌-◌, ◌≤◌, length}
 use Rattle.registry.specs.Counts.{count_entries}
 use Rattle.registry_look.proofs.count_entries.Given as goal
 

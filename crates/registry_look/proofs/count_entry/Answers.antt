@@ -1,9 +1,5 @@
 -- `registry_look::count_entry` meets its contract: the place that the index answers has a counter, and it has room.
-use mathlib.Core.Path.{◌≡◌, sym, ◌∙◌}
-use mathlib.Core.List.{List}
-use Prim.Native.Nat.{ℕ, ◌<◌}
-use native.Mathlib.Omega.{arith}
-use lib.ListN.{length}
+use Rattle.std.proofs.Common.{◌≡◌, sym, ◌∙◌, List, ℕ, ◌<◌, arith, length}
 use Rattle.base.specs.Place.{place_of, place_holds}
 use Rattle.base.specs.declared.distinct.Place.{Place}
 use Rattle.base.specs.declared.distinct.Place.TheVariants.{At, Nowhere}

@@ -1,13 +1,5 @@
-use Rattle.std.proofs.Common.{ap}
-use mathlib.Core.Path.{◌≡◌, refl, sym, ◌∙◌}
-use mathlib.Core.Logic.{◌≢◌}
-use mathlib.Core.Bool.{Bool, true, false, not}
-use mathlib.Core.List.{List}
-use Prim.Native.Nat.{ℕ, suc, ◌+◌, ◌-◌, ◌<◌, ◌≤◌}
-use native.Mathlib.Omega.{arith}
-use borrow.Author.Rules.{rules}
-use borrow.Author.Tests.{not-true, not-false, leb-true}
-use lib.ListN.{length, get_or, length-set}
+use Rattle.std.proofs.Common.{ap, ◌≡◌, refl, sym, ◌∙◌, ◌≢◌, Bool, true, false, not, List, ℕ, suc, ◌+◌, ◌-◌, ◌<◌, ◌≤◌, arith, rules, leb-true, length, get_or, length-set}
+use Rattle.std.proofs.lemmas.Bool.{not-true, not-false}
 use Rattle.base.specs.Below.{all}
 use Rattle.base.specs.AllLaws.{all_none, all_more, all_done, all_fails}
 use Rattle.base.specs.Choose.{both_make, both_false}

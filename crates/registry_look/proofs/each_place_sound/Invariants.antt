@@ -1,10 +1,6 @@
 -- `registry_look::each_place_sound` meets its contract: the places before k keep their rules, their children are counted, and no list
 -- is long yet.
-use mathlib.Core.Path.{◌≡◌}
-use mathlib.Core.Bool.{true}
-use mathlib.Core.List.{List}
-use Prim.Native.Nat.{ℕ, ◌-◌, ◌≤◌}
-use lib.ListN.{length}
+use Rattle.std.proofs.Common.{◌≡◌, true, List, ℕ, ◌-◌, ◌≤◌, length}
 use Rattle.base.specs.Below.{all}
 use Rattle.registry.specs.Words.{link_at}
 use Rattle.registry.specs.Counts.{Counted}

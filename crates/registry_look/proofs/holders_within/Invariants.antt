@@ -1,9 +1,5 @@
 -- `registry_look::holders_within` meets its contract: the holders before k are within their counts.
-use mathlib.Core.Path.{◌≡◌}
-use mathlib.Core.Bool.{true}
-use Prim.Native.Nat.{◌-◌, ◌≤◌}
-use lib.Dec.{leb}
-use lib.ListN.{get_or}
+use Rattle.std.proofs.Common.{◌≡◌, true, ◌-◌, ◌≤◌, leb, get_or}
 use Rattle.base.specs.Below.{all}
 use Rattle.registry.specs.Words.{state_at, holders}
 use Rattle.registry_look.proofs.holders_within.Given as goal

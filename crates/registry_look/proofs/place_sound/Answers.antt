@@ -1,13 +1,6 @@
 -- `registry_look::place_sound` meets its contract: its tests are those of `place_test`, with the child's two asked where there is a parent.
-use mathlib.Core.Path.{◌≡◌}
-use mathlib.Core.Logic.{◌≢◌}
-use mathlib.Core.Bool.{Bool, true, false}
-use mathlib.Core.List.{List}
-use Prim.Native.Nat.{ℕ, ◌-◌, ◌<◌, ◌≤◌, pred}
-use native.Mathlib.Omega.{arith}
-use borrow.Author.Rules.{rules}
-use borrow.Author.Tests.{le-leb, lt-leb, lt-ltb, le-ltb, eq-eqb, ne_eqb}
-use lib.Dec.{leb, eqb}
+use Rattle.std.proofs.Common.{◌≡◌, ◌≢◌, Bool, true, false, List, ℕ, ◌-◌, ◌<◌, ◌≤◌, pred, arith, rules, le-leb, lt-ltb, le-ltb, eq-eqb, ne_eqb, leb, eqb}
+use Rattle.std.proofs.lemmas.Bool.{lt-leb}
 use Rattle.base.specs.Choose.{both}
 use Rattle.registry.specs.Words.{id_at, state_at, link_at, revoked, has_list}
 use Rattle.registry_look.specs.Look.{place_test}

@@ -1,8 +1,5 @@
 -- `registry_look::recycled_sound` meets its contract: the recycled ids before j keep their rules, and `last` is the one before j.
-use mathlib.Core.Path.{◌≡◌}
-use mathlib.Core.Bool.{true}
-use mathlib.Core.List.{List}
-use Prim.Native.Nat.{ℕ, ◌-◌, ◌≤◌}
+use Rattle.std.proofs.Common.{◌≡◌, true, List, ℕ, ◌-◌, ◌≤◌}
 use Rattle.base.specs.Below.{all}
 use Rattle.registry.specs.Words.{recycled_at}
 use Rattle.registry_look.specs.Look.{before, recycled_id_test}

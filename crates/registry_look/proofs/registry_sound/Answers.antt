@@ -1,12 +1,6 @@
 -- `registry_look::registry_sound` meets its contract: the passes and the index test the rules, and the last pass writes nothing.
-use Rattle.std.proofs.Common.{ap}
-use mathlib.Core.Path.{◌≡◌, ◌∙◌}
-use mathlib.Core.Bool.{Bool, true, false, not}
-use mathlib.Core.List.{List}
-use Prim.Native.Nat.{ℕ, ◌≤◌}
-use native.Mathlib.Omega.{arith}
-use borrow.Author.Tests.{not-true, not-false}
-use lib.ListN.{length, take}
+use Rattle.std.proofs.Common.{ap, ◌≡◌, ◌∙◌, Bool, true, false, not, List, ℕ, ◌≤◌, arith, length, take}
+use Rattle.std.proofs.lemmas.Bool.{not-true, not-false}
 use Rattle.base.specs.Below.{all}
 use Rattle.base.specs.Choose.{both, both_goes, both_stops}
 use Rattle.base.specs.Distinct.{differ_test, all_different, differ_take}

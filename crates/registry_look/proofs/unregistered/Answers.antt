@@ -1,12 +1,5 @@
 -- `registry_look::unregistered` meets its contract: what the index knows nowhere is none of the ids.
-use mathlib.Core.Path.{◌≡◌, sym, ap, ◌∙◌}
-use mathlib.Core.Bool.{not}
-use mathlib.Core.List.{List}
-use Prim.Native.Nat.{ℕ, ◌≤◌}
-use native.Mathlib.Omega.{arith}
-use lib.Dec.{eqb}
-use lib.ListN.{length, get_or, take}
-use lib.Seq.{length-take-le, get_or-take}
+use Rattle.std.proofs.Common.{◌≡◌, sym, ap, ◌∙◌, not, List, ℕ, ◌≤◌, arith, eqb, length, get_or, take, length-take-le, get_or-take}
 use Rattle.base.specs.AllLaws.{all_ext}
 use Rattle.base.specs.Exactly.{eqb_swap}
 use Rattle.base.specs.Place.{holds, place_of, is_nowhere, nowhere_test}

@@ -1,14 +1,10 @@
 -- When a record is answered 21, on a sound memory of 4 spaces: where it is refused for a field, and for a space revoke of an id over
 -- 2^48-1. No other call of a record has a field out of its range, nor a drain too short an area.
-use mathlib.Core.List.{List, replicate}
-use mathlib.Core.Logic.{◌↔◌, ◌≢◌, ◌⊎◌, inl, inr, ⊎_elim, by_cases}
-use mathlib.Core.Path.{◌≡◌, refl, subst, sym, ap, ◌∙◌}
-use Prim.Native.Nat.{ℕ, ◌^◌, ◌≤◌, ◌<◌}
-use native.Mathlib.Decide.{dec_lt}
-use native.Mathlib.Omega.{arith}
-use borrow.Author.Tests.{eqb-true, eqb-false, ltb-true}
-use lib.Dec.{eqb, ltb}
-use lib.ListN.{length, length-replicate}
+use Rattle.std.proofs.Common.{List, replicate, ◌↔◌, ◌≢◌, ◌⊎◌, inl, inr, ⊎_elim, ◌≡◌, refl, subst, sym, ap, ◌∙◌, ℕ, ◌^◌, ◌≤◌, ◌<◌, arith, eqb-true, ltb-true, eqb, ltb, length}
+use Rattle.std.proofs.Math.Decide.{dec_lt}
+use Rattle.std.proofs.Math.ListN.{length-replicate}
+use Rattle.std.proofs.Math.Logic.{by_cases}
+use borrow.Author.Tests.{eqb-false}
 use Rattle.answers.specs.Number.{number_of}
 use Rattle.answers.specs.declared.Answer.{Answer}
 use Rattle.answers.specs.declared.Answer.TheVariants.{Done, InsufficientRights, CapabilityRevoked, AlreadyExists, NotFound, SpaceQuota, SpaceIds, BadSpace, BadField, RecycleFull, BadWorld}

@@ -1,12 +1,6 @@
 -- Given room, a run is not refused: the program's numbers are good, and the memory and the area that it lends are long enough.
-use mathlib.Core.Path.{◌≡◌, refl, ap, ◌∙◌}
-use mathlib.Core.Bool.{Bool, true, false, not}
-use mathlib.Core.List.{List, replicate}
-use Prim.Native.Nat.{ℕ, ◌+◌, ◌*◌, ◌/◌, ◌≤◌}
-use native.Mathlib.Omega.{arith}
-use borrow.Author.Tests.{ltb-false, le-ltb}
-use lib.Dec.{eqb, ltb}
-use lib.ListN.{length, length-replicate}
+use Rattle.std.proofs.Common.{◌≡◌, refl, ap, ◌∙◌, Bool, true, false, not, List, replicate, ℕ, ◌+◌, ◌*◌, ◌/◌, ◌≤◌, arith, ltb-false, le-ltb, eqb, ltb, length}
+use Rattle.std.proofs.Math.ListN.{length-replicate}
 use Rattle.answers.specs.Number.{number_of}
 use Rattle.base.specs.Below.{all}
 use Rattle.base.specs.Choose.{pick, when_no}

@@ -1,5 +1,5 @@
 -- `request_run::run_alone` meets its contract: it lends enough, so the run is not refused.
-use borrow.Author.Rules.{rules}
+use Rattle.std.proofs.Common.{rules}
 use Rattle.request_run.proofs.laws.Room.{alone_writes, alone_counts}
 use Rattle.request_run.proofs.run_alone.Goals as goal
 

@@ -1,4 +1,4 @@
-use borrow.Author.Rules.{rules}
+use Rattle.std.proofs.Common.{rules}
 use Rattle.request_run.specs.RunLaws.{run_starts, run_goes, ends_over, ends_through, ends_none, ends_short}
 use Rattle.request_run.proofs.serve_all.Goals as goal
 

@@ -1,6 +1,5 @@
 -- `revocation::write_name` meets its contract: with the bytes from i on written behind those before, the area becomes the answer.
-use Prim.Native.Nat.{◌-◌}
-use lib.ListN.{length}
+use Rattle.std.proofs.Common.{◌-◌, length}
 use Rattle.base.specs.Written.{written, Writing}
 use Rattle.revocation.proofs.write_name.Given as goal
 

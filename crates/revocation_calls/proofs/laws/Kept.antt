@@ -1,8 +1,5 @@
 -- A revocation keeps a sound memory sound, with its numbers, its length and every word past the regions, whatever it answers.
-use mathlib.Core.List.{List, [], ◌∷◌}
-use Prim.Native.Nat.{ℕ, zero, suc, ◌^◌, ◌≤◌, ◌<◌}
-use native.Mathlib.Omega.{arith}
-use lib.ListN.{get_or}
+use Rattle.std.proofs.Common.{List, [], ◌∷◌, ℕ, zero, suc, ◌^◌, ◌≤◌, ◌<◌, arith, get_or}
 use Rattle.revocation.specs.Log.{pair_of}
 use Rattle.revocation.specs.LogLaws.{absent_exactly, absent_differ, absent_pairs}
 use Rattle.revocation_steps.specs.Revocation.{log_of, log_step}

@@ -1,11 +1,6 @@
 -- The ways through a revocation: what holds of each ending holds of the whole.
-use mathlib.Core.List.{List, [], ◌∷◌}
-use mathlib.Core.Path.{◌≡◌}
-use Prim.Native.Nat.{ℕ, ◌+◌, ◌≤◌, ◌<◌}
-use native.Mathlib.Omega.{arith}
-use borrow.Author.Tests.{ltb-true, ltb-false, eqb-true, eqb-false}
-use lib.Dec.{eqb, ltb}
-use lib.ListN.{length}
+use Rattle.std.proofs.Common.{List, [], ◌∷◌, ◌≡◌, ℕ, ◌+◌, ◌≤◌, ◌<◌, arith, ltb-true, ltb-false, eqb-true, eqb, ltb, length}
+use borrow.Author.Tests.{eqb-false}
 use Rattle.answers.specs.declared.Answer.TheVariants.{LogFull, PidTableFull}
 use Rattle.registry.specs.Words.{revoked}
 use Rattle.revocation.specs.Log.{pair_of, absent_of}

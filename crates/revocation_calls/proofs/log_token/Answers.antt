@@ -1,11 +1,5 @@
 -- Of the token's pair alone what the log has not is kept; it joins where there is room.
-use mathlib.Core.List.{List, [], ◌∷◌}
-use mathlib.Core.Path.{◌≡◌, refl, sym, ap, ◌∙◌}
-use Prim.Native.Nat.{ℕ, ◌+◌, ◌%◌, ◌^◌, ◌≤◌, ◌<◌}
-use native.Mathlib.Omega.{arith}
-use borrow.Author.Tests.{lt-ltb, le-ltb}
-use lib.ListN.{length, take}
-use lib.Seq.{length-take-le}
+use Rattle.std.proofs.Common.{List, [], ◌∷◌, ◌≡◌, refl, sym, ap, ◌∙◌, ℕ, ◌+◌, ◌%◌, ◌^◌, ◌≤◌, ◌<◌, arith, lt-ltb, le-ltb, length, take, length-take-le}
 use Rattle.answers.specs.declared.Answer.TheVariants.{LogFull}
 use Rattle.base.specs.Choose.{when_yes, when_no}
 use Rattle.revocation.specs.Log.{pair_of, absent_of}
@@ -30,19 +24,20 @@ module _ (k : ℕ) (xs : List ℕ) (long : length xs ≡ 1) (few : k ≤ 1) wher
   fits n most room = rw count room
 
   -- They are what was kept.
-  module _ (d : Numbers) (mem : List ℕ) (token : ℕ) (kept : take k xs ≡ absent_of (logged_of mem) (log_of d mem) (token % 2 ^ 56 ∷ [])) where
-    absent : absent_of (logged_of mem) (log_of d mem) (pair_of (id_of token) (generation_of token) ∷ []) ≡ take k xs
-    absent = ap (λ pair. absent_of (logged_of mem) (log_of d mem) (pair ∷ [])) (sym (token_pair token)) ∙ sym kept
+  module _ (d : Numbers) (mem : List ℕ) (token : ℕ) (kept : take k xs ≡ absent_of (logged_of mem) (log_of d mem) (token % 2 ^ 56 ∷ []))
+    where
+      absent : absent_of (logged_of mem) (log_of d mem) (pair_of (id_of token) (generation_of token) ∷ []) ≡ take k xs
+      absent = ap (λ pair. absent_of (logged_of mem) (log_of d mem) (pair ∷ [])) (sym (token_pair token)) ∙ sym kept
 
-    no_room : d.pairs < logged_of mem + k → logging_token d token mem ≡ refuse mem LogFull
-    unfolding logging_token
-    no_room over = when_yes _ _ _ (rw (absent, count) (lt-ltb _ _ over))
+      no_room : d.pairs < logged_of mem + k → logging_token d token mem ≡ refuse mem LogFull
+      unfolding logging_token
+      no_room over = when_yes _ _ _ (rw (absent, count) (lt-ltb _ _ over))
 
-    joins :
-        logged_of mem + k ≤ d.pairs
-        → logging_token d token mem ≡ record { reply = done 0; memory = add_step epoch_word 1 (log_step d (take k xs) mem) }
-    unfolding logging_token
-    joins room = rw absent (when_no _ _ _ (le-ltb _ _ (fits _ _ room)))
+      joins :
+          logged_of mem + k ≤ d.pairs
+          → logging_token d token mem ≡ record { reply = done 0; memory = add_step epoch_word 1 (log_step d (take k xs) mem) }
+      unfolding logging_token
+      joins room = rw absent (when_no _ _ _ (le-ltb _ _ (fits _ _ room)))
 
 pub keep_absent-absent-requires-clause-ready : goal.keep_absent-absent-requires-clause-ready
 keep_absent-absent-requires-clause-ready c =
@@ -53,7 +48,8 @@ bounds-mem-13 c = omega (arith, (ready_at _ _ c.requires).head)
 
 pub returns-then-d-mem : goal.returns-then-d-mem
 returns-then-d-mem c =
-    let kept = c.keep_absent-absent.ensures.pairs_after in let few = c.keep_absent-absent.ensures.upper_bound in
+    let kept = c.keep_absent-absent.ensures.pairs_after in
+    let few = c.keep_absent-absent.ensures.upper_bound in
     left_is c.refusal.ensures refl (no_room _ _ c.pairs-2-1.given few _ _ _ kept c.if-d-mem.true)
 
 pub append_pairs-requires : goal.append_pairs-requires
@@ -68,6 +64,7 @@ add-requires c =
 
 pub returns : goal.returns
 returns c =
-    let kept = c.keep_absent-absent.ensures.pairs_after in let few = c.keep_absent-absent.ensures.upper_bound in
+    let kept = c.keep_absent-absent.ensures.pairs_after in
+    let few = c.keep_absent-absent.ensures.upper_bound in
     left_is c.done.ensures (c.add.ensures ∙ ap (add_step epoch_word 1) c.append_pairs.ensures)
     (joins _ _ c.pairs-2-1.given few _ _ _ kept c.if-d-mem.false)

@@ -1,9 +1,5 @@
 -- Entered, the process list is measured, then the id is looked for, then it is revoked.
-use mathlib.Core.Bool.{true, false, not}
-use mathlib.Core.List.{List}
-use mathlib.Core.Path.{◌≡◌, ap, ◌∙◌}
-use Prim.Native.Nat.{ℕ, ◌≤◌, ◌<◌}
-use lib.Dec.{ltb}
+use Rattle.std.proofs.Common.{true, false, not, List, ◌≡◌, ap, ◌∙◌, ℕ, ◌≤◌, ◌<◌, ltb}
 use Rattle.steps.proofs.WorldCalls.{world_calls}
 use Rattle.base.specs.Cases.{not_below, is_below}
 use Rattle.steps.specs.Replies.{Left}

@@ -1,7 +1,5 @@
 -- Entered, the batch is measured, then the process list; then each token has its turn.
-use mathlib.Core.List.{List}
-use mathlib.Core.Path.{◌≡◌, ap, ◌∙◌}
-use Prim.Native.Nat.{ℕ}
+use Rattle.std.proofs.Common.{List, ◌≡◌, ap, ◌∙◌, ℕ}
 use Rattle.steps.proofs.WorldCalls.{world_calls}
 use Rattle.steps.specs.Replies.{Left}
 use Rattle.steps.specs.declared.Reply.{Reply}

@@ -1,4 +1,4 @@
-use borrow.Author.Rules.{rules}
+use Rattle.std.proofs.Common.{rules}
 use Rattle.revocation_calls.proofs.revoke_each.Invariants.{starts, still_sound, gave_few, ends, gives_0, refuses}
 use Rattle.revocation_calls.proofs.revoke_each.Goals as goal
 

@@ -1,12 +1,5 @@
 -- The tokens before j are served, and so many of them gave 0; with those from j on the memory becomes the answer.
-use mathlib.Core.List.{List}
-use mathlib.Core.Logic.{◌≢◌}
-use mathlib.Core.Path.{◌≡◌, refl, ap}
-use Prim.Native.Nat.{ℕ, ◌+◌, ◌-◌, ◌<◌, ◌≤◌}
-use native.Mathlib.Omega.{arith}
-use borrow.Author.Tests.{eq-eqb, ne_eqb}
-use lib.Dec.{eqb}
-use lib.ListN.{length, get_or, drop, drop_of_length-le}
+use Rattle.std.proofs.Common.{List, ◌≢◌, ◌≡◌, refl, ap, ℕ, ◌+◌, ◌-◌, ◌<◌, ◌≤◌, arith, eq-eqb, ne_eqb, eqb, length, get_or, drop, drop_of_length-le}
 use Rattle.answers.specs.Number.{number_of}
 use Rattle.base.specs.Below.{one}
 use Rattle.base.specs.Rest.{drop_next}

@@ -1,8 +1,5 @@
 -- Entered, the process list is measured, then the token is looked up; what was found decides.
-use mathlib.Core.List.{List}
-use mathlib.Core.Path.{◌≡◌, ap₂, ◌∙◌}
-use Prim.Native.Nat.{ℕ}
-use borrow.Author.Rules.{rules}
+use Rattle.std.proofs.Common.{List, ◌≡◌, ap₂, ◌∙◌, ℕ, rules}
 use Rattle.space.specs.Lookup.{looked_up}
 use Rattle.space.specs.declared.LookedUp.{LookedUp}
 use Rattle.steps.proofs.Entering.{space_sound, enters}

@@ -1,9 +1,5 @@
 -- What was looked up decides, then REVOKE.
-use mathlib.Core.Bool.{Bool, true, false, not}
-use mathlib.Core.List.{List}
-use mathlib.Core.Path.{◌≡◌, sym, ap, ◌∙◌}
-use Prim.Native.Nat.{ℕ}
-use borrow.Author.Rules.{rules}
+use Rattle.std.proofs.Common.{Bool, true, false, not, List, ◌≡◌, sym, ap, ◌∙◌, ℕ, rules}
 use Rattle.answers.specs.declared.Answer.TheVariants.{InsufficientRights, NotFound}
 use Rattle.steps.specs.Replies.{Left, replied}
 use Rattle.steps.specs.declared.Reply.{Reply}

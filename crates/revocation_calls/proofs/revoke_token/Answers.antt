@@ -1,12 +1,5 @@
 -- The place of the id decides: registered or not.
-use mathlib.Core.List.{List}
-use mathlib.Core.Path.{◌≡◌, ap, ◌∙◌}
-use Prim.Native.Nat.{ℕ, ◌≤◌, ◌<◌}
-use native.Mathlib.Omega.{arith}
-use borrow.Author.Rules.{rules}
-use borrow.Author.Tests.{lt-ltb, le-ltb}
-use lib.Dec.{ltb}
-use lib.ListN.{length}
+use Rattle.std.proofs.Common.{List, ◌≡◌, ap, ◌∙◌, ℕ, ◌≤◌, ◌<◌, arith, rules, lt-ltb, le-ltb, ltb, length}
 use Rattle.base.specs.Choose.{pick}
 use Rattle.steps.proofs.laws.Ready.{ready_at}
 use Rattle.steps.specs.Replies.{Left}

@@ -1,11 +1,6 @@
 -- A batch is its single calls one after the other: it leaves what `revoke_capability` for each token in turn leaves, each on the memory
 -- that the one before left, and its value is how many of them gave 0.
-use mathlib.Core.List.{List, [], ◌∷◌}
-use mathlib.Core.Path.{◌≡◌, sym, ap, ◌∙◌}
-use Prim.Native.Nat.{ℕ, ◌+◌, ◌≤◌}
-use native.Mathlib.Nat.{add-zero, zero-add, add_assoc}
-use lib.Dec.{eqb}
-use lib.ListN.{length}
+use Rattle.std.proofs.Common.{List, [], ◌∷◌, ◌≡◌, sym, ap, ◌∙◌, ℕ, ◌+◌, ◌≤◌, add-zero, zero-add, add_assoc, eqb, length}
 use Rattle.answers.specs.Number.{number_of}
 use Rattle.base.specs.Below.{one}
 use Rattle.steps.specs.Replies.{Left, done}

@@ -1,10 +1,5 @@
 -- A counted lookup changes nothing that a revocation reads: the revocation answers as it would have before the lookup.
-use mathlib.Core.Bool.{Bool, true, false}
-use mathlib.Core.List.{List}
-use mathlib.Core.Path.{◌≡◌, refl, ap, ap₂, ◌∙◌}
-use Prim.Native.Nat.{ℕ, ◌<◌}
-use native.Mathlib.Omega.{arith}
-use lib.Dec.{eqb, ltb}
+use Rattle.std.proofs.Common.{Bool, true, false, List, ◌≡◌, refl, ap, ap₂, ◌∙◌, ℕ, ◌<◌, arith, eqb, ltb}
 use Rattle.answers.specs.declared.Answer.TheVariants.{LogFull, PidTableFull}
 use Rattle.base.specs.Choose.{pick, when}
 use Rattle.registry.specs.Words.{revoked}

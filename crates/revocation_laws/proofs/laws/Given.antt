@@ -1,10 +1,6 @@
 -- What holds of the memory that a revocation given 0 leaves holds of what each call that revokes leaves, given 0: `revoke`,
 -- `revoke_capability`, a held revoke.
-use mathlib.Core.List.{List}
-use mathlib.Core.Logic.{◌≢◌}
-use mathlib.Core.Path.{◌≡◌, refl, ap}
-use Prim.Native.Nat.{ℕ, ◌≤◌, ◌<◌}
-use native.Mathlib.Omega.{arith}
+use Rattle.std.proofs.Common.{List, ◌≢◌, ◌≡◌, refl, ap, ℕ, ◌≤◌, ◌<◌, arith}
 use Rattle.answers.specs.Number.{number_of}
 use Rattle.answers.specs.declared.Answer.{Answer}
 use Rattle.answers.specs.declared.Answer.TheVariants.{Done}

@@ -1,12 +1,6 @@
 -- When each answer of a held revoke and of a batch is given, on a sound memory: 21 exactly for too long a list; then 8 exactly where the
 -- space has not the token and 2 exactly where it has it without REVOKE, else as `revoke_capability` answers; and a batch gives 0.
-use mathlib.Core.Bool.{true, false, true≢false}
-use mathlib.Core.List.{List}
-use mathlib.Core.Logic.{◌↔◌, ◌≢◌, ◌⊎◌, inl, inr, ⊎_elim}
-use mathlib.Core.Path.{◌≡◌, refl, sym, ap, ◌∙◌}
-use Prim.Native.Nat.{ℕ, ◌≤◌, ◌<◌}
-use native.Mathlib.Omega.{arith}
-use lib.ListN.{length}
+use Rattle.std.proofs.Common.{true, false, true≢false, List, ◌↔◌, ◌≢◌, ◌⊎◌, inl, inr, ⊎_elim, ◌≡◌, refl, sym, ap, ◌∙◌, ℕ, ◌≤◌, ◌<◌, arith, length}
 use Rattle.answers.specs.Number.{number_of}
 use Rattle.answers.specs.declared.Answer.{Answer}
 use Rattle.answers.specs.declared.Answer.TheVariants.{Done, InsufficientRights, NotFound, BadField, LogFull, PidTableFull}

@@ -1,14 +1,6 @@
 -- When each answer of the calls that list and of those for notifications is given, on a sound memory: 21 exactly for a field out of its
 -- range or an area too short, 25 exactly where a pid has no queue and no place is free, 0 exactly in the rest.
-use mathlib.Core.Bool.{Bool, true, false}
-use mathlib.Core.List.{List}
-use mathlib.Core.Logic.{◌↔◌, ◌⊎◌, inl, inr, ⊎_elim}
-use mathlib.Core.Path.{◌≡◌, refl}
-use Prim.Native.Nat.{ℕ, ◌^◌, ◌≤◌, ◌<◌}
-use native.Mathlib.Omega.{arith}
-use borrow.Author.Tests.{ltb-true, ltb-false, leb-true, leb-false}
-use lib.Dec.{leb, ltb}
-use lib.ListN.{length}
+use Rattle.std.proofs.Common.{Bool, true, false, List, ◌↔◌, ◌⊎◌, inl, inr, ⊎_elim, ◌≡◌, refl, ℕ, ◌^◌, ◌≤◌, ◌<◌, arith, ltb-true, ltb-false, leb-true, leb-false, leb, ltb, length}
 use Rattle.answers.specs.declared.Answer.{Answer}
 use Rattle.answers.specs.declared.Answer.TheVariants.{Done, BadField, PidTableFull, BadWorld}
 use Rattle.base.specs.Choose.{when}

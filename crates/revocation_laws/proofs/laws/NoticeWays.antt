@@ -1,12 +1,6 @@
 -- The ways through the calls for notifications: what holds of each ending holds of the whole. And a drain answers what a peek answers.
-use mathlib.Core.Bool.{Bool, true, false, not}
-use mathlib.Core.List.{List}
-use mathlib.Core.Logic.{◌⊎◌, inl, inr, ⊎_elim}
-use mathlib.Core.Path.{◌≡◌, refl, sym}
-use Prim.Native.Nat.{ℕ, ◌^◌, ◌≤◌, ◌<◌}
-use borrow.Author.Tests.{ltb-true, ltb-false, not-true}
-use lib.Dec.{ltb}
-use lib.ListN.{length}
+use Rattle.std.proofs.Common.{Bool, true, false, not, List, ◌⊎◌, inl, inr, ⊎_elim, ◌≡◌, refl, sym, ℕ, ◌^◌, ◌≤◌, ◌<◌, ltb-true, ltb-false, ltb, length}
+use Rattle.std.proofs.lemmas.Bool.{not-true}
 use Rattle.answers.specs.declared.Answer.TheVariants.{BadField, PidTableFull, BadWorld}
 use Rattle.base.specs.Choose.{both, both_left, both_right, when}
 use Rattle.revocation_steps.specs.Revocation.{queue_for, free_queue, notify_step}

@@ -1,15 +1,7 @@
 -- What the notices of a pid are after each call: a notice joins them; each id that a revocation newly revokes but the first joins those of
 -- every listed pid, in turn and as often as it is listed; of all the last 256 stay. Drain and cleanup leave none. Those of any other pid
 -- are as they were.
-use mathlib.Core.Bool.{Bool, true, false}
-use mathlib.Core.List.{List, [], ◌∷◌, ◌++◌}
-use mathlib.Core.Logic.{◌≢◌}
-use mathlib.Core.Path.{◌≡◌, refl, sym, ap, ◌∙◌}
-use Prim.Native.Nat.{ℕ, ◌*◌, ◌≤◌, ◌<◌}
-use native.Mathlib.Omega.{arith}
-use borrow.Author.Tests.{ltb-true, ltb-false}
-use lib.Dec.{ltb}
-use lib.ListN.{length, drop, drop_of_length-le}
+use Rattle.std.proofs.Common.{Bool, true, false, List, [], ◌∷◌, ◌++◌, ◌≢◌, ◌≡◌, refl, sym, ap, ◌∙◌, ℕ, ◌*◌, ◌≤◌, ◌<◌, arith, ltb-true, ltb-false, ltb, length, drop, drop_of_length-le}
 use Rattle.answers.specs.Number.{number_of}
 use Rattle.answers.specs.declared.Answer.TheVariants.{Done}
 use Rattle.base.specs.Choose.{pick}

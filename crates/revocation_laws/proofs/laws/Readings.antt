@@ -1,13 +1,6 @@
 -- What the calls that only read answer on a sound memory: whether the log has the pair of a token, the epoch, how many notices a pid has,
 -- how many pids have some, and how many notices there are in all.
-use mathlib.Core.Bool.{Bool, true, false, true≢false}
-use mathlib.Core.List.{List}
-use mathlib.Core.Logic.{◌↔◌}
-use mathlib.Core.Path.{◌≡◌, refl, sym, ap, ◌∙◌}
-use Prim.Native.Nat.{ℕ, zero, suc, ◌*◌, ◌<◌}
-use native.Mathlib.Omega.{arith}
-use lib.Dec.{ltb}
-use lib.ListN.{length}
+use Rattle.std.proofs.Common.{Bool, true, false, true≢false, List, ◌↔◌, ◌≡◌, refl, sym, ap, ◌∙◌, ℕ, zero, suc, ◌*◌, ◌<◌, arith, ltb, length}
 use Rattle.base.specs.Exactly.{one_exactly}
 use Rattle.base.specs.Below.{sum, one}
 use Rattle.base.specs.Distinct.{Among}

@@ -1,11 +1,6 @@
 -- When each answer of `revoke` and `revoke_capability` is given, on a sound memory: 21 exactly for too long a list; for any other, 1, 24,
 -- 25 and 0 exactly in their stated cases. Told.antt says it of 26.
-use mathlib.Core.List.{List}
-use mathlib.Core.Logic.{◌↔◌, ◌≢◌, ◌⊎◌, inl, inr, ⊎_elim}
-use mathlib.Core.Path.{◌≡◌, refl, sym}
-use Prim.Native.Nat.{ℕ, ◌≤◌, ◌<◌}
-use native.Mathlib.Omega.{arith}
-use lib.ListN.{length}
+use Rattle.std.proofs.Common.{List, ◌↔◌, ◌≢◌, ◌⊎◌, inl, inr, ⊎_elim, ◌≡◌, refl, sym, ℕ, ◌≤◌, ◌<◌, arith, length}
 use Rattle.answers.specs.Number.{number_of}
 use Rattle.answers.specs.declared.Answer.{Answer}
 use Rattle.answers.specs.declared.Answer.TheVariants.{Done, InvalidCapability, BadField, LogFull, PidTableFull}

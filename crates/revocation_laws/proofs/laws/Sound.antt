@@ -1,6 +1,5 @@
 -- Every call keeps a sound memory sound, with its numbers, its length and every word past the regions, whatever it answers: each step does.
-use mathlib.Core.List.{List}
-use Prim.Native.Nat.{ℕ}
+use Rattle.std.proofs.Common.{List, ℕ}
 use Rattle.notification_calls.specs.Calls.{notify_out, drain_out, cleanup_out}
 use Rattle.revocation_calls.specs.Calls.{revoke_out, revoke_capability_out, revoke_held_out, revoke_batch_out}
 use Rattle.revocation_calls.proofs.laws.Kept.{joined_kept}

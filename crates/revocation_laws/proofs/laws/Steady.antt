@@ -1,10 +1,7 @@
 -- What each step keeps, each call keeps. A relation between a memory and a later one that holds of the steps of revocation, and from step
 -- to step, holds of every call that revokes and of every call for notifications: of the calls it need not be proved one by one. Sound.antt
 -- takes it for soundness, `history` for the ids and for the moves of a space.
-use mathlib.Core.List.{List, [], ◌∷◌}
-use Prim.Native.Nat.{ℕ, ◌+◌, ◌≤◌, ◌<◌}
-use borrow.Author.Tests.{ltb-true}
-use lib.Dec.{eqb, ltb}
+use Rattle.std.proofs.Common.{List, [], ◌∷◌, ℕ, ◌+◌, ◌≤◌, ◌<◌, ltb-true, eqb, ltb}
 use Rattle.answers.specs.Number.{number_of}
 use Rattle.base.specs.Below.{one}
 use Rattle.notification_calls.specs.Calls.{notify_out, without, drain_out, cleanup_out}

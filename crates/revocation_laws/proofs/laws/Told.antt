@@ -1,13 +1,7 @@
 -- 26 is answered exactly on memory that is not sound, 20 exactly on a sound one for a space number of S or more; and 0 exactly on a sound
 -- one by the calls with no refusal of their own. RevokeTold.antt, HeldTold.antt and ListsTold.antt say of each other answer when it is
 -- given.
-use mathlib.Core.List.{List}
-use mathlib.Core.Logic.{◌↔◌}
-use mathlib.Core.Path.{◌≡◌, refl}
-use Prim.Native.Nat.{ℕ}
-use native.Mathlib.Omega.{arith}
-use lib.Dec.{ltb}
-use lib.ListN.{length}
+use Rattle.std.proofs.Common.{List, ◌↔◌, ◌≡◌, refl, ℕ, arith, ltb, length}
 use Rattle.answers.specs.declared.Answer.{Answer}
 use Rattle.answers.specs.declared.Answer.TheVariants.{Done, InvalidCapability, InsufficientRights, NotFound, BadField, PidTableFull, BadWorld}
 use Rattle.base.specs.Choose.{when}

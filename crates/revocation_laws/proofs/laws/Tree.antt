@@ -1,12 +1,5 @@
 -- `get_derivation_tree` given 0: the ids of all descendants, each once, parents before their children, in front of the area.
-use mathlib.Core.List.{List, []}
-use mathlib.Core.Logic.{◌↔◌, ◌≢◌, ◌⊎◌, inl, inr}
-use mathlib.Core.Path.{◌≡◌, refl, sym, ap, ◌∙◌}
-use Prim.Native.Nat.{ℕ, zero, suc, ◌+◌, ◌≤◌, ◌<◌}
-use native.Mathlib.Omega.{arith}
-use borrow.Author.Tests.{lt-ltb, le-ltb}
-use lib.ListN.{length, get_or, drop, length-drop}
-use lib.Seq.{get_or-drop}
+use Rattle.std.proofs.Common.{List, [], ◌↔◌, ◌≢◌, ◌⊎◌, inl, inr, ◌≡◌, refl, sym, ap, ◌∙◌, ℕ, zero, suc, ◌+◌, ◌≤◌, ◌<◌, arith, lt-ltb, le-ltb, length, get_or, drop, length-drop, get_or-drop}
 use Rattle.answers.specs.Number.{number_of}
 use Rattle.answers.specs.declared.Answer.TheVariants.{Done}
 use Rattle.base.specs.Members.{In, Once}

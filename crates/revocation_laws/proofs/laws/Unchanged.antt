@@ -1,12 +1,6 @@
 -- What refusals leave: a refusal's value is 0 and it changes nothing, not even the lent area, but that the lookup of a held revoke stays
 -- counted. And an id that is revoked already: 0, nothing changes.
-use mathlib.Core.Bool.{true}
-use mathlib.Core.List.{List}
-use mathlib.Core.Logic.{◌≢◌}
-use mathlib.Core.Path.{◌≡◌, refl, ap, ◌∙◌}
-use Prim.Native.Nat.{ℕ, ◌≤◌, ◌<◌}
-use native.Mathlib.Omega.{arith}
-use lib.ListN.{length}
+use Rattle.std.proofs.Common.{true, List, ◌≢◌, ◌≡◌, refl, ap, ◌∙◌, ℕ, ◌≤◌, ◌<◌, arith, length}
 use Rattle.answers.specs.declared.Answer.{Answer}
 use Rattle.answers.specs.declared.Answer.TheVariants.{Done, InvalidCapability, BadField, LogFull, PidTableFull, BadWorld}
 use Rattle.registry.specs.Words.{revoked}

@@ -1,8 +1,5 @@
 -- The calls of revocation that only read and list nothing: a refusal's value is 0. Unchanged.antt says it of the others.
-use mathlib.Core.List.{List}
-use mathlib.Core.Logic.{◌≢◌}
-use mathlib.Core.Path.{◌≡◌, refl}
-use Prim.Native.Nat.{ℕ}
+use Rattle.std.proofs.Common.{List, ◌≢◌, ◌≡◌, refl, ℕ}
 use Rattle.answers.specs.declared.Answer.TheVariants.{Done}
 use Rattle.steps.specs.Replies.{refusal}
 use Rattle.steps.proofs.laws.Cases.{NoValue}

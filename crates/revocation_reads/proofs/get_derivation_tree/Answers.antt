@@ -1,10 +1,6 @@
 -- Entered, an id too large is refused; those under the id's place are listed, and none where the id has no place.
-use mathlib.Core.List.{List, []}
-use mathlib.Core.Path.{◌≡◌, refl, sym, ap, ◌∙◌}
-use Prim.Native.Nat.{ℕ, ◌^◌, ◌<◌, ◌≤◌}
-use native.Mathlib.Omega.{arith}
-use borrow.Author.Tests.{le-leb, lt-leb, le-ltb}
-use lib.ListN.{length}
+use Rattle.std.proofs.Common.{List, [], ◌≡◌, refl, sym, ap, ◌∙◌, ℕ, ◌^◌, ◌<◌, ◌≤◌, arith, le-leb, le-ltb, length}
+use Rattle.std.proofs.lemmas.Bool.{lt-leb}
 use Rattle.answers.specs.declared.Answer.TheVariants.{BadField}
 use Rattle.base.specs.Choose.{when_yes, when_no}
 use Rattle.base.specs.Written.{written}

@@ -1,8 +1,5 @@
 -- Entered, the log is asked for the token's pair.
-use mathlib.Core.Bool.{Bool}
-use mathlib.Core.List.{List}
-use mathlib.Core.Path.{◌≡◌, sym, ap, ◌∙◌}
-use Prim.Native.Nat.{ℕ, ◌%◌, ◌^◌}
+use Rattle.std.proofs.Common.{Bool, List, ◌≡◌, sym, ap, ◌∙◌, ℕ, ◌%◌, ◌^◌}
 use Rattle.base.specs.Below.{one}
 use Rattle.revocation.specs.Log.{log_has}
 use Rattle.revocation_steps.specs.Revocation.{log_of}

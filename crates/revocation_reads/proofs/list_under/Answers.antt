@@ -1,12 +1,6 @@
 -- The places under r are all of its descent but the first, r itself: where the area is long enough, their ids are written to it.
-use borrow.Author.Rules.{rules}
-use mathlib.Core.List.{List, [], ◌∷◌}
-use mathlib.Core.Path.{◌≡◌, refl, sym, ap, ◌∙◌}
-use Prim.Native.Nat.{ℕ, zero, suc, ◌-◌, ◌<◌, ◌≤◌}
-use native.Mathlib.Omega.{arith}
-use borrow.Author.Tests.{lt-ltb}
-use lib.ListN.{length, take, drop, length-drop}
-use lib.Seq.{length-take-le, take-nil}
+use Rattle.std.proofs.Common.{rules, List, [], ◌∷◌, ◌≡◌, refl, sym, ap, ◌∙◌, ℕ, zero, suc, ◌-◌, ◌<◌, ◌≤◌, arith, lt-ltb, length, take, drop, length-drop, length-take-le}
+use Rattle.std.proofs.Math.Seq.{take-nil}
 use Rattle.answers.specs.declared.Answer.TheVariants.{BadField}
 use Rattle.base.specs.Written.{written}
 use Rattle.registry.specs.Children.{ids_at}
@@ -86,27 +80,48 @@ module _ (d : Numbers) (mem : List ℕ) (r : ℕ) (order : List ℕ) (count : �
       into_fits (descendants d mem r) area (count - 1) how_many l
       ∙ ap {B = WithArea} (λ xs. record { reply = done (count - 1); area = written xs area }) is_under
 
+ruleset under_laws = (
+  rules,
+  rest_of,
+  rest_below,
+  finds,
+  under,
+  some,
+  under_length,
+  under_below,
+  is_under,
+  how_many,
+  too_short,
+  lists,
+  ids_at-length,
+  descent_first,
+  into_short,
+  into_fits,
+  ready_at,
+  area_is,
+)
+
 pub descend-count-requires-clause-ready : goal.descend-count-requires-clause-ready
 descend-count-requires-clause-ready c =
     let (sound, below) = c.requires in (ready_at _ _ sound, below, omega (arith, sound.registered_fit, sound.in_range.places))
 
 pub overflow_sub-count : goal.overflow_sub-count
-overflow_sub-count c = search (rules, rest_of, rest_below, finds, under, some, under_length, under_below, is_under, how_many, too_short, lists, ids_at-length, descent_first, into_short, into_fits, ready_at, area_is)
+overflow_sub-count c = search under_laws
 
 pub returns-then-area-count : goal.returns-then-area-count
-returns-then-area-count c = search (rules, rest_of, rest_below, finds, under, some, under_length, under_below, is_under, how_many, too_short, lists, ids_at-length, descent_first, into_short, into_fits, ready_at, area_is)
+returns-then-area-count c = search under_laws
 
 pub slice_bounds-ids_at-count : goal.slice_bounds-ids_at-count
-slice_bounds-ids_at-count c = search (rules, rest_of, rest_below, finds, under, some, under_length, under_below, is_under, how_many, too_short, lists, ids_at-length, descent_first, into_short, into_fits, ready_at, area_is)
+slice_bounds-ids_at-count c = search under_laws
 
 pub slice_bounds-ids_at-start : goal.slice_bounds-ids_at-start
-slice_bounds-ids_at-start c = search (rules, rest_of, rest_below, finds, under, some, under_length, under_below, is_under, how_many, too_short, lists, ids_at-length, descent_first, into_short, into_fits, ready_at, area_is)
+slice_bounds-ids_at-start c = search under_laws
 
 pub ids_at-requires-clause-all_below : goal.ids_at-requires-clause-all_below
-ids_at-requires-clause-all_below c = search (rules, rest_of, rest_below, finds, under, some, under_length, under_below, is_under, how_many, too_short, lists, ids_at-length, descent_first, into_short, into_fits, ready_at, area_is)
+ids_at-requires-clause-all_below c = search under_laws
 
 pub overflow_sub-count-2 : goal.overflow_sub-count-2
-overflow_sub-count-2 c = search (rules, rest_of, rest_below, finds, under, some, under_length, under_below, is_under, how_many, too_short, lists, ids_at-length, descent_first, into_short, into_fits, ready_at, area_is)
+overflow_sub-count-2 c = search under_laws
 
 pub returns : goal.returns
-returns c = search (rules, rest_of, rest_below, finds, under, some, under_length, under_below, is_under, how_many, too_short, lists, ids_at-length, descent_first, into_short, into_fits, ready_at, area_is)
+returns c = search under_laws

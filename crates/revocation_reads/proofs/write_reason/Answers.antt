@@ -1,9 +1,5 @@
 -- A number that is no reason's is refused, then an area too short for its name; else the name is written to it.
-use mathlib.Core.List.{List}
-use mathlib.Core.Path.{◌≡◌, refl, sym, ap, ◌∙◌}
-use Prim.Native.Nat.{ℕ, ◌<◌, ◌≤◌}
-use borrow.Author.Tests.{lt-ltb, le-ltb}
-use lib.ListN.{length}
+use Rattle.std.proofs.Common.{List, ◌≡◌, refl, sym, ap, ◌∙◌, ℕ, ◌<◌, ◌≤◌, lt-ltb, le-ltb, length}
 use Rattle.answers.specs.declared.Answer.TheVariants.{BadField}
 use Rattle.base.specs.Choose.{when_yes, when_no}
 use Rattle.base.specs.Written.{written}

@@ -1,14 +1,8 @@
 -- The places that a cascade revokes, and their ids: exactly the registered places under its first that are not revoked yet, each once; so
 -- their ids differ, and each is a pair of the log with generation 0.
-use mathlib.Core.Path.{◌≡◌, refl, sym, ap, ◌∙◌}
-use mathlib.Core.Logic.{◌↔◌, by_cases}
-use mathlib.Core.List.{List, [], ◌∷◌}
-use Prim.Native.Nat.{ℕ, ◌<◌}
-use native.Mathlib.Decide.{dec_lt}
-use native.Mathlib.Omega.{arith}
-use borrow.Author.Tests.{eqb-true, eq-eqb}
-use lib.Dec.{eqb}
-use lib.ListN.{length, get_or}
+use Rattle.std.proofs.Common.{◌≡◌, refl, sym, ap, ◌∙◌, ◌↔◌, List, [], ◌∷◌, ℕ, ◌<◌, arith, eqb-true, eq-eqb, eqb, length, get_or}
+use Rattle.std.proofs.Math.Decide.{dec_lt}
+use Rattle.std.proofs.Math.Logic.{by_cases}
 use Rattle.base.specs.Members.{In, Once}
 use Rattle.base.specs.Sifted.{sifted, sifted_exactly, sifted_once}
 use Rattle.registry.specs.ChildrenLaws.{ids_at-length, ids_at_each, ids_at_differ}

@@ -1,13 +1,8 @@
 -- What a cascade leaves of the notices of each pid: each id that it revokes but the first joins them, in turn, as often as the pid is
 -- listed, and of all the last 256 stay.
-use mathlib.Core.List.{List, ◌++◌}
-use mathlib.Core.Logic.{by_cases}
-use mathlib.Core.Path.{◌≡◌, sym, ap, ◌∙◌}
-use Prim.Native.Nat.{ℕ, ◌+◌, ◌≤◌, ◌<◌}
-use native.Mathlib.Decide.{dec_lt}
-use native.Mathlib.Omega.{arith}
-use borrow.Author.Tests.{lt-ltb}
-use lib.ListN.{length, drop, drop_of_length-le}
+use Rattle.std.proofs.Common.{List, ◌++◌, ◌≡◌, sym, ap, ◌∙◌, ℕ, ◌+◌, ◌≤◌, ◌<◌, arith, lt-ltb, length, drop, drop_of_length-le}
+use Rattle.std.proofs.Math.Decide.{dec_lt}
+use Rattle.std.proofs.Math.Logic.{by_cases}
 use Rattle.registry.specs.ChildrenLaws.{ids_at-length}
 use Rattle.revocation.specs.NoticesLaws.{last_words}
 use Rattle.world.specs.Numbers.{registered_of, logged_of}

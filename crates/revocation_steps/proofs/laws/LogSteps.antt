@@ -1,13 +1,6 @@
 -- Pairs join the log: of the memory only the log and the number of its pairs change, and a sound memory is kept where the pairs are coded,
 -- differ and are not logged yet.
-use mathlib.Core.Path.{◌≡◌, refl, ap, ◌∙◌}
-use mathlib.Core.Logic.{◌≢◌}
-use mathlib.Core.Bool.{false}
-use mathlib.Core.List.{List}
-use Prim.Native.Nat.{ℕ, ◌+◌, ◌%◌, ◌^◌, ◌≤◌, ◌<◌}
-use native.Mathlib.Omega.{arith}
-use lib.ListN.{length, get_or, set, length-set}
-use lib.Seq.{get_or-set_same, get_or-set_other}
+use Rattle.std.proofs.Common.{◌≡◌, refl, ap, ◌∙◌, ◌≢◌, false, List, ℕ, ◌+◌, ◌%◌, ◌^◌, ◌≤◌, ◌<◌, arith, length, get_or, set, length-set, get_or-set_same, get_or-set_other}
 use Rattle.base.specs.Members.{In, Once}
 use Rattle.revocation.specs.Log.{log_has, appended}
 use Rattle.revocation.specs.LogLaws.{length_appended, pairs_appended, differ_appended}

@@ -1,15 +1,8 @@
 -- What one step leaves of the notices of each pid: a notice joins those of its pid, of which the last 256 stay; a queue that is no more has
 -- none; and those of every other pid are as they were.
-use mathlib.Core.Bool.{Bool, true, false, not, true≢false}
-use mathlib.Core.List.{List, [], ◌∷◌, ◌++◌}
-use mathlib.Core.Logic.{◌≢◌, ◌⊎◌, ⊎_elim, by_cases}
-use mathlib.Core.Path.{◌≡◌, refl, sym, ap, subst, ◌∙◌}
-use Prim.Native.Nat.{ℕ, ◌+◌, ◌≤◌, ◌<◌}
-use native.Mathlib.Decide.{ℕ_discrete, dec_lt}
-use native.Mathlib.Omega.{arith}
-use borrow.Author.Tests.{ltb-true, lt-ltb, le-ltb, eqb-true, eq-eqb, ne_eqb}
-use lib.Dec.{eqb, ltb}
-use lib.ListN.{length}
+use Rattle.std.proofs.Common.{Bool, true, false, not, true≢false, List, [], ◌∷◌, ◌++◌, ◌≢◌, ◌⊎◌, ⊎_elim, ◌≡◌, refl, sym, ap, subst, ◌∙◌, ℕ, ◌+◌, ◌≤◌, ◌<◌, arith, ltb-true, lt-ltb, le-ltb, eqb-true, eq-eqb, ne_eqb, eqb, ltb, length}
+use Rattle.std.proofs.Math.Decide.{ℕ_discrete, dec_lt}
+use Rattle.std.proofs.Math.Logic.{by_cases}
 use Rattle.base.specs.Below.{one}
 use Rattle.base.specs.Choose.{pick, both, both_left, both_right, both_make, refuted}
 use Rattle.base.specs.FirstLaws.{first_passes, first_is, first_none, first_ext}

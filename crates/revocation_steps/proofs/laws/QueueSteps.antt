@@ -1,15 +1,8 @@
 -- One queue changes, by a notice or because it is no more: of the memory nothing but queues changes, and a sound memory is kept where that
 -- queue is sound and its pid differs from those of the others. So notices for many pids, of many ids, keep it too.
-use mathlib.Core.Path.{◌≡◌, refl, sym, ◌∙◌}
-use mathlib.Core.Logic.{◌≢◌, by_cases}
-use mathlib.Core.Bool.{Bool, true, false, true≢false}
-use mathlib.Core.List.{List, [], ◌∷◌}
-use Prim.Native.Nat.{ℕ, ◌≤◌, ◌<◌}
-use native.Mathlib.Decide.{ℕ_discrete, dec_lt}
-use native.Mathlib.Omega.{arith}
-use borrow.Author.Tests.{ltb-true, ltb-false, lt-ltb, eq-eqb, ne_eqb}
-use lib.Dec.{eqb, ltb}
-use lib.ListN.{length, get_or}
+use Rattle.std.proofs.Common.{◌≡◌, refl, sym, ◌∙◌, ◌≢◌, Bool, true, false, true≢false, List, [], ◌∷◌, ℕ, ◌≤◌, ◌<◌, arith, ltb-true, ltb-false, lt-ltb, eq-eqb, ne_eqb, eqb, ltb, length, get_or}
+use Rattle.std.proofs.Math.Decide.{ℕ_discrete, dec_lt}
+use Rattle.std.proofs.Math.Logic.{by_cases}
 use Rattle.base.specs.Choose.{pick, both, both_left, both_make}
 use Rattle.base.specs.FirstLaws.{first_passes, first_before}
 use Rattle.revocation.specs.Reason.{number_of}

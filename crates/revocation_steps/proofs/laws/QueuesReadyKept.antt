@@ -1,9 +1,6 @@
 -- The steps of a cascade keep what the steps and a notice ask of a memory, from that and from ranges alone, where the memory need not be
 -- sound. A notice asks only of the length and of the queues.
-use mathlib.Core.Path.{◌≡◌}
-use mathlib.Core.List.{List}
-use Prim.Native.Nat.{ℕ, ◌+◌, ◌≤◌, ◌<◌}
-use lib.ListN.{length}
+use Rattle.std.proofs.Common.{◌≡◌, List, ℕ, ◌+◌, ◌≤◌, ◌<◌, length}
 use Rattle.registry.specs.Descent.{marked}
 use Rattle.registry.specs.MarkedLaws.{marked_only}
 use Rattle.registry.specs.PlaceLists.{AllBelow}

@@ -1,12 +1,6 @@
 -- Document 01, "Revocation", on the whole memory: after a cascade exactly what was revoked and the registered places under its first are
 -- revoked, and nothing else of the registry changes; the log begins with what it was, and has each id of the cascade.
-use mathlib.Core.Path.{◌≡◌, ◌∙◌}
-use mathlib.Core.Logic.{◌↔◌, ◌⊎◌}
-use mathlib.Core.Bool.{true}
-use mathlib.Core.List.{List}
-use Prim.Native.Nat.{ℕ, ◌+◌, ◌*◌, ◌≤◌, ◌<◌}
-use native.Mathlib.Omega.{arith}
-use lib.ListN.{length, take}
+use Rattle.std.proofs.Common.{◌≡◌, ◌∙◌, ◌↔◌, ◌⊎◌, true, List, ℕ, ◌+◌, ◌*◌, ◌≤◌, ◌<◌, arith, length, take}
 use Rattle.base.specs.Members.{In}
 use Rattle.registry.specs.Descent.{descent, marked}
 use Rattle.registry.specs.DescentLaws.{Under, descent_exactly}

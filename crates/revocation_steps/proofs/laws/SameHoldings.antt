@@ -1,12 +1,7 @@
 -- The log, the queues, the epoch and the number of logged pairs may change, nothing else: what the spaces and the registry hold stays.
 -- Every step of a revocation but the marking of the registry is of this form. The memory is kept where the log and the queues have their
 -- rules.
-use mathlib.Core.Path.{◌≡◌, refl, ◌∙◌}
-use mathlib.Core.Logic.{◌≢◌}
-use mathlib.Core.List.{List}
-use Prim.Native.Nat.{ℕ, ◌≤◌, ◌<◌}
-use native.Mathlib.Omega.{arith}
-use lib.ListN.{length, get_or, drop}
+use Rattle.std.proofs.Common.{◌≡◌, refl, ◌∙◌, ◌≢◌, List, ℕ, ◌≤◌, ◌<◌, arith, length, get_or, drop}
 use Rattle.base.specs.Distinct.{Differ}
 use Rattle.revocation.specs.Sound.{Pairs, SoundQueue, PidsDiffer}
 use Rattle.world.specs.Numbers.{numbers_of, next_of, registered_of, recycled_of, logged_of, epoch_word}

@@ -1,13 +1,7 @@
 -- What goes by the words of the queues alone: where each pid's queue stands, how many are free and how many are needed, and the notices.
-use mathlib.Core.Bool.{not}
-use mathlib.Core.List.{List, [], ◌∷◌}
-use mathlib.Core.Logic.{by_cases}
-use mathlib.Core.Path.{◌≡◌, refl, ap, ap₂}
-use Prim.Native.Nat.{ℕ, ◌+◌, ◌<◌}
-use native.Mathlib.Decide.{dec_lt}
-use native.Mathlib.Omega.{arith}
-use borrow.Author.Tests.{le-ltb}
-use lib.Dec.{eqb, ltb}
+use Rattle.std.proofs.Common.{not, List, [], ◌∷◌, ◌≡◌, refl, ap, ap₂, ℕ, ◌+◌, ◌<◌, arith, le-ltb, eqb, ltb}
+use Rattle.std.proofs.Math.Decide.{dec_lt}
+use Rattle.std.proofs.Math.Logic.{by_cases}
 use Rattle.base.specs.Below.{one}
 use Rattle.base.specs.Choose.{pick, both}
 use Rattle.base.specs.FirstLaws.{first_ext}

@@ -1,8 +1,8 @@
 -- A lookup counts, and does nothing else: a hit goes to the hits and to the uses of the token's entry, a miss to the misses. Every search
 -- ends where it did, and every token is answered as before, but for the uses of the one that was found.
 use Rattle.std.proofs.Common.{◌≡◌, ℕ, ◌+◌, ◌*◌, ◌%◌, ◌^◌, ◌<◌, Bool, true, false, eqb, ◌≢◌, ◌↔◌, List, length, get_or, sym, refl, ap, ◌∙◌, arith, get_or-set_other, get_or-set_same, eq-eqb, ne_eqb}
-use mathlib.Core.Logic.{by_cases}
-use native.Mathlib.Decide.{ℕ_discrete}
+use Rattle.std.proofs.Math.Decide.{ℕ_discrete}
+use Rattle.std.proofs.Math.Logic.{by_cases}
 use Rattle.base.specs.Choose.{pick}
 use Rattle.table.specs.Slots.{is_live, entry_at}
 use Rattle.table.specs.declared.CapabilityEntry.{CapabilityEntry}

@@ -1,10 +1,5 @@
 -- `check_rights` in a user's words: its value is 1 exactly where the space holds the token with all the rights required, and else 0.
-use mathlib.Core.Bool.{Bool, true, false}
-use mathlib.Core.List.{List}
-use mathlib.Core.Logic.{◌↔◌}
-use mathlib.Core.Path.{◌≡◌, refl}
-use Prim.Native.Nat.{ℕ, ◌<◌}
-use native.Mathlib.Omega.{arith}
+use Rattle.std.proofs.Common.{Bool, true, false, List, ◌↔◌, ◌≡◌, refl, ℕ, ◌<◌, arith}
 use Rattle.base.specs.Below.{one}
 use Rattle.base.specs.Exactly.{one_exactly}
 use Rattle.space.specs.Lookup.{looked_up}

@@ -1,7 +1,6 @@
 -- After a call on space s, every other space, the log, every queue and the head are as they were, and of the registry only holders differ;
 -- a call that takes an id changes recycled ids and the next id besides. This holds on every memory, whatever the answer.
-use mathlib.Core.List.{List}
-use Prim.Native.Nat.{ℕ, ◌^◌, ◌<◌}
+use Rattle.std.proofs.Common.{List, ℕ, ◌^◌, ◌<◌}
 use Rattle.answers.specs.declared.Answer.{Answer}
 use Rattle.steps.specs.Enter.{on_space}
 use Rattle.steps.specs.Steps.{space_of, take_step, new_entry}

@@ -1,12 +1,8 @@
 -- What a search of a sound space says of the entries that the space holds: a token, an id or an n-th entry is found exactly where there
 -- is one.
-use mathlib.Core.List.{List, [], ◌∷◌}
-use mathlib.Core.Logic.{by_cases}
-use mathlib.Core.Path.{◌≡◌, refl, ◌∙◌}
-use Prim.Native.Nat.{ℕ, zero, suc, ◌<◌, ◌≤◌}
-use native.Mathlib.Decide.{dec_lt}
-use native.Mathlib.Omega.{arith}
-use lib.ListN.{length}
+use Rattle.std.proofs.Common.{List, [], ◌∷◌, ◌≡◌, refl, ◌∙◌, ℕ, zero, suc, ◌<◌, ◌≤◌, arith, length}
+use Rattle.std.proofs.Math.Decide.{dec_lt}
+use Rattle.std.proofs.Math.Logic.{by_cases}
 use Rattle.space.specs.Lookup.{search_id, looked_up, got_entry}
 use Rattle.space.specs.Sound.{SpaceOf}
 use Rattle.space.specs.Words.{table_of, slot_words}

@@ -1,10 +1,7 @@
 -- The calls on a whole space in a user's words: it says its facts, a lookup only counts, a clear leaves nothing, a copy answers as its
 -- source did.
-use mathlib.Core.List.{List}
-use mathlib.Core.Logic.Iff
-use mathlib.Core.Path.{◌≡◌, sym, ap, subst, ◌∙◌}
-use Prim.Native.Nat.{ℕ, ◌+◌, ◌%◌, ◌^◌, ◌<◌}
-use native.Mathlib.Omega.{arith}
+use Rattle.std.proofs.Common.{List, ◌≡◌, sym, ap, subst, ◌∙◌, ℕ, ◌+◌, ◌%◌, ◌^◌, ◌<◌, arith}
+use Rattle.std.proofs.Math.Logic.Iff
 use Rattle.answers.specs.Number.{number_of}
 use Rattle.answers.specs.declared.Answer.TheVariants.{Done}
 use Rattle.space.specs.Change.{cleared, next_generation}

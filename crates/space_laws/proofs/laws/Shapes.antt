@@ -1,10 +1,6 @@
 -- When an answer is given, by the shape of the reply: 0 or 8 of what is looked for, 21 before them for an id that does not fit, 11, 7 or 0
 -- of an insert, 12 before them of a space's create. Told.antt says it of each call.
-use mathlib.Core.List.{List}
-use mathlib.Core.Logic.{◌↔◌, ◌≢◌}
-use mathlib.Core.Path.{◌≡◌, refl, sym, ap, subst, ◌∙◌}
-use Prim.Native.Nat.{ℕ, ◌^◌, ◌≤◌, ◌<◌}
-use native.Mathlib.Omega.{arith}
+use Rattle.std.proofs.Common.{List, ◌↔◌, ◌≢◌, ◌≡◌, refl, sym, ap, subst, ◌∙◌, ℕ, ◌^◌, ◌≤◌, ◌<◌, arith}
 use Rattle.answers.specs.Number.{number_of}
 use Rattle.answers.specs.declared.Answer.{Answer}
 use Rattle.answers.specs.declared.Answer.TheVariants.{Done, AlreadyExists, NotFound, SpaceQuota, SpaceIds, BadSpace, BadField, BadWorld}

@@ -1,6 +1,5 @@
 -- Every call keeps a sound memory sound, with its numbers, its length and every word past the regions (`Kept`), whatever it answers.
-use mathlib.Core.List.{List}
-use Prim.Native.Nat.{ℕ, ◌^◌, ◌<◌}
+use Rattle.std.proofs.Common.{List, ℕ, ◌^◌, ◌<◌}
 use Rattle.steps.specs.Steps.{space_of, new_entry}
 use Rattle.base.specs.Cases.{unless_below}
 use Rattle.steps.proofs.laws.Kept.{kept_refl, kept_trans}

@@ -1,11 +1,6 @@
 -- When each answer of a call of a space is given, once the memory is sound and the space is there (Refused.antt says 26 and 20): 21, 11, 7,
 -- 8, 9, 12 and 0, each exactly in its stated case. `used` and `total_caps` are the table's `full`, its live entries.
-use mathlib.Core.List.{List}
-use mathlib.Core.Logic.{◌↔◌}
-use mathlib.Core.Path.{◌≡◌, refl}
-use Prim.Native.Nat.{ℕ, ◌%◌, ◌^◌, ◌≤◌, ◌<◌}
-use native.Mathlib.Omega.{arith}
-use lib.Dec.{leb}
+use Rattle.std.proofs.Common.{List, ◌↔◌, ◌≡◌, refl, ℕ, ◌%◌, ◌^◌, ◌≤◌, ◌<◌, arith, leb}
 use Rattle.answers.specs.declared.Answer.{Answer}
 use Rattle.answers.specs.declared.Answer.TheVariants.{Done, AlreadyExists, NotFound, IdExhausted, SpaceQuota, SpaceIds, BadSpace, BadField, BadWorld}
 use Rattle.base.specs.Choose.{when}

@@ -1,10 +1,6 @@
 -- A refusal changes nothing: any answer but 0 leaves the memory as it was. Two exceptions: a lookup that found nothing (8) is counted all
 -- the same, and an id that a space's create took is lost where its entry is refused (7, 11).
-use mathlib.Core.List.{List}
-use mathlib.Core.Logic.{◌≢◌}
-use mathlib.Core.Path.{◌≡◌, refl, sym, ap, ◌∙◌}
-use Prim.Native.Nat.{ℕ, ◌<◌}
-use native.Mathlib.Omega.{arith}
+use Rattle.std.proofs.Common.{List, ◌≢◌, ◌≡◌, refl, sym, ap, ◌∙◌, ℕ, ◌<◌, arith}
 use Rattle.answers.specs.Number.{number_of}
 use Rattle.answers.specs.declared.Answer.{Answer}
 use Rattle.answers.specs.declared.Answer.TheVariants.{Done, SpaceIds}

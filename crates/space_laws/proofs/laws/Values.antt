@@ -1,9 +1,6 @@
 -- A refusal's value is 0: where the answer of a call of a space is not 0, a reply has the value 0, a reply with an entry no entry, and all
 -- that a space says of itself is zeros. What is added, the visits of a search that found nothing, is answered all the same.
-use mathlib.Core.List.{List}
-use mathlib.Core.Logic.{◌≢◌}
-use mathlib.Core.Path.{◌≡◌, refl}
-use Prim.Native.Nat.{ℕ}
+use Rattle.std.proofs.Common.{List, ◌≢◌, ◌≡◌, refl, ℕ}
 use Rattle.answers.specs.declared.Answer.{Answer}
 use Rattle.answers.specs.declared.Answer.TheVariants.{Done, BadSpace, BadWorld}
 use Rattle.space.specs.Change.{InsertOut, insert_out}

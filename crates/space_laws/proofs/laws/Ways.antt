@@ -1,11 +1,6 @@
 -- The ways through the two calls that make a token of an id, the space-made create and the space revoke: what holds of each ending holds of
 -- the whole.
-use mathlib.Core.List.{List}
-use mathlib.Core.Path.{◌≡◌, refl, sym, subst}
-use Prim.Native.Nat.{ℕ, ◌-◌, ◌^◌, ◌≤◌, ◌<◌}
-use native.Mathlib.Omega.{arith}
-use borrow.Author.Tests.{ltb-true, ltb-false}
-use lib.Dec.{ltb}
+use Rattle.std.proofs.Common.{List, ◌≡◌, refl, sym, subst, ℕ, ◌-◌, ◌^◌, ◌≤◌, ◌<◌, arith, ltb-true, ltb-false, ltb}
 use Rattle.answers.specs.declared.Answer.TheVariants.{SpaceIds, BadSpace, BadField, BadWorld}
 use Rattle.space.specs.Words.{generation_of}
 use Rattle.space_calls.specs.Calls.{inserting, create_made, create_taken, create_out}

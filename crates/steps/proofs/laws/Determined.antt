@@ -1,6 +1,6 @@
--- What the contract of each call says is one equation whose right side speaks of the input alone: `r ≡ theOut (now mem.entry) ..` where
--- nothing is lent to be changed, `record { reply = r; memory = now mem.exit } ≡ theOut ..` where the memory is, `record { reply = r;
--- area = now area.exit } ≡ theOut ..` where an area is (get_children, get_derivation_tree, peek_notifications, write_reason), and the
+-- What the contract of each call says is one equation whose right side speaks of the input alone: `result ≡ the_out mem.now ..` where
+-- nothing is lent to be changed, `record { reply = result; memory = mem.new } ≡ the_out mem.old ..` where the memory is, `record { reply =
+-- result; area = area.new } ≡ the_out ..` where an area is (get_children, get_derivation_tree, peek_notifications, write_reason), and the
 -- one inside the other where both are (drain_notifications). Two results that keep a contract on one input are therefore equal, in answer,
 -- memory and area.
 use Rattle.std.proofs.Common.{◌≡◌, ℕ, List, sym, ap, ◌∙◌}

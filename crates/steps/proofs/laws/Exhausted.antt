@@ -1,7 +1,7 @@
 -- No id is left exactly where none is recycled and next is 2^48: document 01's case of 9 and 12.
 use Rattle.std.proofs.Common.{◌≡◌, ℕ, ◌^◌, ◌≤◌, ◌↔◌, List, sym, refl, arith}
-use mathlib.Core.Logic.{by_cases}
-use native.Mathlib.Decide.{dec_lt}
+use Rattle.std.proofs.Math.Decide.{dec_lt}
+use Rattle.std.proofs.Math.Logic.{by_cases}
 use Rattle.world.specs.Numbers.{next_of, recycled_of}
 use Rattle.world.specs.declared.Numbers.{Numbers}
 use Rattle.steps.specs.Steps.{taken_id}

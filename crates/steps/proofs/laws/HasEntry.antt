@@ -1,7 +1,7 @@
 -- Which ids have an entry in a space: those of the entries that it holds, and its list of ids has each of them once.
 use Rattle.std.proofs.Common.{◌≡◌, ℕ, ◌+◌, ◌<◌, Bool, true, false, not, eqb, ◌≢◌, ◌⊎◌, ◌↔◌, List, sym, refl, ap, ◌∙◌, inl, inr, ⊎_elim, true≢false, arith, eq-eqb, eqb-true}
-use mathlib.Core.Logic.{by_cases}
-use native.Mathlib.Decide.{dec_lt}
+use Rattle.std.proofs.Math.Decide.{dec_lt}
+use Rattle.std.proofs.Math.Logic.{by_cases}
 use Rattle.base.specs.Below.{first, sum, one}
 use Rattle.base.specs.Choose.{both_left, both_right, both_make, refuted}
 use Rattle.base.specs.AllLaws.{all_make, all_fails}

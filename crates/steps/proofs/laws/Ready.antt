@@ -1,7 +1,7 @@
 -- A sound memory has what the steps ask of it.
 use Rattle.std.proofs.Common.{ℕ, ◌<◌, ◌≤◌, List, arith}
-use mathlib.Core.Logic.{by_cases}
-use native.Mathlib.Decide.{dec_lt}
+use Rattle.std.proofs.Math.Decide.{dec_lt}
+use Rattle.std.proofs.Math.Logic.{by_cases}
 use Rattle.space.specs.Sound.{SpaceOf}
 use Rattle.world.specs.Layout.{inside}
 use Rattle.world.specs.Regions.{head, space, width_of, length_for, start_of, view}

@@ -1,8 +1,8 @@
 -- The steps after which a call goes on keep what the next step asks of a memory, from that and from ranges alone, where the memory need not
 -- be sound; and what each leaves of the words of the head.
 use Rattle.std.proofs.Common.{◌≡◌, ℕ, ◌+◌, ◌-◌, ◌*◌, ◌%◌, ◌^◌, ◌<◌, ◌≤◌, Bool, true, false, eqb, ◌≢◌, List, length, get_or, set, sym, refl, ◌∙◌, arith}
-use mathlib.Core.Logic.{by_cases}
-use native.Mathlib.Decide.{ℕ_discrete}
+use Rattle.std.proofs.Math.Decide.{ℕ_discrete}
+use Rattle.std.proofs.Math.Logic.{by_cases}
 use Rattle.answers.specs.Number.{number_of}
 use Rattle.base.specs.Choose.{pick}
 use Rattle.registry.proofs.CollectionLaws.{collects}

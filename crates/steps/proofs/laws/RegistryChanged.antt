@@ -1,7 +1,7 @@
 -- The registry and one word of the head change, nothing else. Every step on the registry is of this form, and so is taking an id: where
 -- only one of the two changes, the other is what it was. The memory is kept where the new registry has its rules.
 use Rattle.std.proofs.Common.{◌≡◌, ℕ, ◌+◌, ◌^◌, ◌<◌, ◌≤◌, ◌≢◌, List, length, get_or, set, refl, ◌∙◌, subst, arith, get_or-set_other, get_or-set_same}
-use lib.Seq.{set-get_or}
+use Rattle.std.proofs.Math.Seq.{set-get_or}
 use Rattle.base.specs.Part.{on_part_same}
 use Rattle.registry.specs.Rules.{RegistryRules}
 use Rattle.world.specs.Numbers.{next_of, registered_of, recycled_of}

@@ -1,8 +1,8 @@
 -- One space changes, and with it holders: the memory is kept where the space is and no id has more holders than came and went with it.
 -- Every step of a space is of this form.
 use Rattle.std.proofs.Common.{◌≡◌, ℕ, ◌+◌, ◌-◌, ◌<◌, ◌≤◌, List, get_or, sym, refl, ap, ◌∙◌, arith}
-use mathlib.Core.Logic.{by_cases}
-use native.Mathlib.Decide.{ℕ_discrete}
+use Rattle.std.proofs.Math.Decide.{ℕ_discrete}
+use Rattle.std.proofs.Math.Logic.{by_cases}
 use Rattle.base.specs.Below.{one}
 use Rattle.registry.specs.HoldersLaws.{HoldersOnly, holders_only_registered}
 use Rattle.registry.specs.StatesOnly.{same_ids, states_only_recycled}

@@ -1,7 +1,7 @@
 -- The three ways of taking an id: the smallest recycled one, the next where none is recycled, or none.
 use Rattle.std.proofs.Common.{◌≡◌, ℕ, ◌+◌, ◌-◌, ◌^◌, ◌<◌, ◌≤◌, List, set, refl, arith, le-ltb, lt-ltb}
-use mathlib.Core.Logic.{by_cases}
-use native.Mathlib.Decide.{dec_lt}
+use Rattle.std.proofs.Math.Decide.{dec_lt}
+use Rattle.std.proofs.Math.Logic.{by_cases}
 use Rattle.registry.specs.Ids.{first_taken}
 use Rattle.world.specs.Numbers.{next_of, recycled_of}
 use Rattle.world.specs.Regions.{registry, on_region}

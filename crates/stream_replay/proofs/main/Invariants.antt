@@ -1,6 +1,5 @@
 -- `main` is safe and ends: each turn takes one of the streams left, and leaves both arrays as long as they are.
-use mathlib.Core.Path.{◌≡◌}
-use lib.ListN.{length}
+use Rattle.std.proofs.Common.{◌≡◌, length}
 use Rattle.stream_replay.proofs.main.Given as goal
 
 abbrev pub invariant-loop-left : goal.invariant-loop-left

@@ -1,13 +1,8 @@
 -- What a table holds: the entries of its live slots. Placing adds exactly the entry placed, marking takes exactly the entry of the slot
 -- that is marked, and all others keep every field.
-use mathlib.Core.Path.{◌≡◌, refl, sym, ap, ◌∙◌}
-use mathlib.Core.Logic.{◌↔◌, ◌≢◌, ◌⊎◌, inl, inr, ⊎_elim, by_cases}
-use mathlib.Core.Bool.{true, false, true≢false}
-use mathlib.Core.List.{List}
-use Prim.Native.Nat.{ℕ, suc, ◌*◌, ◌^◌, ◌<◌, ◌≤◌}
-use native.Mathlib.Decide.{ℕ_discrete}
-use native.Mathlib.Omega.{arith}
-use lib.ListN.{length}
+use Rattle.std.proofs.Common.{◌≡◌, refl, sym, ap, ◌∙◌, ◌↔◌, ◌≢◌, ◌⊎◌, inl, inr, ⊎_elim, true, false, true≢false, List, ℕ, suc, ◌*◌, ◌^◌, ◌<◌, ◌≤◌, arith, length}
+use Rattle.std.proofs.Math.Decide.{ℕ_discrete}
+use Rattle.std.proofs.Math.Logic.{by_cases}
 use Rattle.base.specs.Below.{one}
 use Rattle.base.specs.SumLaws.{sum_positive}
 use Rattle.table.specs.Slots.{is_live, id_at, id_of, entry_at, put_entry, put_mark}

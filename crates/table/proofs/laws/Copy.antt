@@ -1,12 +1,6 @@
 -- Copying a sound table into other words: the target is sound and holds exactly the source's entries with uses zeroed, and its inserts
 -- paid for their moves. The code copies by gathering the source's live entries into a scratch and inserting those.
-use mathlib.Core.Path.{◌≡◌, refl, sym, ap, ◌∙◌}
-use mathlib.Core.Logic.{◌↔◌}
-use mathlib.Core.Bool.{true, false}
-use mathlib.Core.List.{List}
-use Prim.Native.Nat.{ℕ, suc, ◌+◌, ◌*◌, ◌^◌, ◌<◌, ◌≤◌}
-use native.Mathlib.Omega.{arith}
-use lib.ListN.{length}
+use Rattle.std.proofs.Common.{◌≡◌, refl, sym, ap, ◌∙◌, ◌↔◌, true, false, List, ℕ, suc, ◌+◌, ◌*◌, ◌^◌, ◌<◌, ◌≤◌, arith, length}
 use Rattle.base.specs.Below.{one}
 use Rattle.base.specs.SumLaws.{sum-zero}
 use Rattle.table.specs.Slots.{is_live, id_of, entry_at}

@@ -1,14 +1,8 @@
 -- A search is exact: what it finds is a live entry of that id, every live entry is found where it stands, and it says absent exactly
 -- when no live slot has the id.
-use mathlib.Core.Path.{◌≡◌, refl, sym, ap, ◌∙◌}
-use mathlib.Core.Logic.{◌≢◌, ◌↔◌, by_cases}
-use mathlib.Core.Bool.{Bool, true, false}
-use mathlib.Core.List.{List}
-use Prim.Native.Nat.{ℕ, ◌+◌, ◌<◌}
-use native.Mathlib.Decide.{dec_lt}
-use native.Mathlib.Omega.{arith}
-use borrow.Author.Tests.{eqb-true, eq-eqb, ne_eqb}
-use lib.Dec.{eqb}
+use Rattle.std.proofs.Common.{◌≡◌, refl, sym, ap, ◌∙◌, ◌≢◌, ◌↔◌, Bool, true, false, List, ℕ, ◌+◌, ◌<◌, arith, eqb-true, eq-eqb, ne_eqb, eqb}
+use Rattle.std.proofs.Math.Decide.{dec_lt}
+use Rattle.std.proofs.Math.Logic.{by_cases}
 use Rattle.base.specs.Choose.{pick}
 use Rattle.base.specs.FirstLaws.{first_passes, first_is}
 use Rattle.table.specs.Slots.{is_empty, is_live, id_at}

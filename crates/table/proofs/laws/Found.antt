@@ -1,12 +1,6 @@
 -- What a sound table holds is found: a search of its id ends at a live slot with that entry, and `got` answers it. So the new entry is
 -- found after an insert, and what was there before a call and stays is found with every field as it was.
-use mathlib.Core.Path.{◌≡◌, refl, sym, ap, ◌∙◌}
-use mathlib.Core.Logic.{◌≢◌, ◌↔◌, inl, inr}
-use mathlib.Core.Bool.{true}
-use mathlib.Core.List.{List}
-use Prim.Native.Nat.{ℕ, ◌*◌, ◌^◌, ◌<◌, ◌≤◌}
-use native.Mathlib.Omega.{arith}
-use lib.ListN.{length}
+use Rattle.std.proofs.Common.{◌≡◌, refl, sym, ap, ◌∙◌, ◌≢◌, ◌↔◌, inl, inr, true, List, ℕ, ◌*◌, ◌^◌, ◌<◌, ◌≤◌, arith, length}
 use Rattle.table.specs.Slots.{is_live, id_of, entry_at}
 use Rattle.table.specs.Walk.{search, got_at, got}
 use Rattle.table.specs.Insert.{slots_for, rebuilt, room_for, insert_new}

@@ -1,14 +1,7 @@
 -- Inserting an entry whose id is not there, in a table that has fewer than `most`: the walk for its place is short, the table is sound
 -- again, and it holds exactly what it held and the new entry.
-use mathlib.Core.Path.{◌≡◌, refl, ap, ◌∙◌}
-use mathlib.Core.Logic.Iff
-use mathlib.Core.Logic.{◌↔◌, ◌⊎◌, inl, inr, ⊎_elim}
-use mathlib.Core.Bool.{Bool, true, false}
-use mathlib.Core.List.{List}
-use Prim.Native.Nat.{ℕ, ◌+◌, ◌*◌, ◌^◌, ◌<◌, ◌≤◌}
-use native.Mathlib.Omega.{arith}
-use borrow.Author.Tests.{ltb-false}
-use lib.ListN.{length}
+use Rattle.std.proofs.Common.{◌≡◌, refl, ap, ◌∙◌, ◌↔◌, ◌⊎◌, inl, inr, ⊎_elim, Bool, true, false, List, ℕ, ◌+◌, ◌*◌, ◌^◌, ◌<◌, ◌≤◌, arith, ltb-false, length}
+use Rattle.std.proofs.Math.Logic.Iff
 use Rattle.table.specs.Slots.{id_of}
 use Rattle.table.specs.Walk.{steps_to_free, free_for}
 use Rattle.table.specs.Insert.{slots_for, Table, crowded, made_room, placed, insert_new}

@@ -1,12 +1,6 @@
 -- The live entries of a table in slot order, the list that a rebuild re-places and a copy inserts: there are as many as live slots, and
 -- what is done to each of them is shown slot by slot.
-use mathlib.Core.Path.{◌≡◌, refl, ap, ◌∙◌}
-use mathlib.Core.Bool.{Bool, true, false}
-use mathlib.Core.List.{List, [], ◌∷◌}
-use Prim.Native.Nat.{ℕ, zero, suc, ◌+◌, ◌<◌, ◌≤◌}
-use native.Mathlib.Nat.{add-zero, add-suc, suc-add, zero-add}
-use native.Mathlib.Omega.{arith}
-use lib.ListN.{length}
+use Rattle.std.proofs.Common.{◌≡◌, refl, ap, ◌∙◌, Bool, true, false, List, [], ◌∷◌, ℕ, zero, suc, ◌+◌, ◌<◌, ◌≤◌, add-zero, add-suc, suc-add, zero-add, arith, length}
 use Rattle.base.specs.Choose.{pick}
 use Rattle.base.specs.Below.{sum, one}
 use Rattle.base.specs.SumLaws.{sum-zero, sum_grows}

@@ -1,12 +1,5 @@
 -- Rebuilds move few entries: over any calls on one table, from 0 slots on, all entries moved are at most three for each entry accepted.
-use mathlib.Core.Path.{◌≡◌, refl}
-use mathlib.Core.Bool.{Bool, true, false}
-use mathlib.Core.List.{List, [], ◌∷◌}
-use Prim.Native.Nat.{ℕ, ◌+◌, ◌*◌, ◌^◌, ◌<◌, ◌≤◌}
-use native.Mathlib.Omega.{arith}
-use borrow.Author.Tests.{ltb-true}
-use lib.Dec.{ltb}
-use lib.ListN.{length}
+use Rattle.std.proofs.Common.{◌≡◌, refl, Bool, true, false, List, [], ◌∷◌, ℕ, ◌+◌, ◌*◌, ◌^◌, ◌<◌, ◌≤◌, arith, ltb-true, ltb, length}
 use Rattle.base.specs.Choose.{pick}
 use Rattle.table.specs.Slots.{id_of}
 use Rattle.table.specs.Walk.{search}

@@ -1,15 +1,8 @@
 -- What a table has been paid towards its next rebuild. A rebuild moves every live entry; the potential makes this even out: an insert
 -- pays 3, its moves and what it adds to the potential come to no more than that, and nothing else raises the potential.
-use mathlib.Core.Path.{◌≡◌, refl, sym, ap, ◌∙◌}
-use mathlib.Core.Logic.{◌≢◌, by_cases}
-use mathlib.Core.Bool.{Bool, true, false}
-use mathlib.Core.List.{List}
-use Prim.Native.Nat.{ℕ, ◌+◌, ◌-◌, ◌*◌, ◌/◌, ◌<◌, ◌≤◌}
-use native.Mathlib.Nat.{zero-add}
-use native.Mathlib.Decide.{ℕ_discrete}
-use native.Mathlib.Omega.{arith}
-use borrow.Author.Tests.{eq-eqb, ne_eqb, ltb-true, ltb-false}
-use lib.Dec.{eqb, ltb}
+use Rattle.std.proofs.Common.{◌≡◌, refl, sym, ap, ◌∙◌, ◌≢◌, Bool, true, false, List, ℕ, ◌+◌, ◌-◌, ◌*◌, ◌/◌, ◌<◌, ◌≤◌, zero-add, arith, eq-eqb, ne_eqb, ltb-true, ltb-false, eqb, ltb}
+use Rattle.std.proofs.Math.Decide.{ℕ_discrete}
+use Rattle.std.proofs.Math.Logic.{by_cases}
 use Rattle.base.specs.Below.{one}
 use Rattle.base.specs.SumLaws.{sum-zero}
 use Rattle.base.specs.Choose.{pick}

@@ -1,8 +1,5 @@
 -- The slot counts that are powers of two: those that are their own next power of two.
-use mathlib.Core.Path.{◌≡◌, sym, ◌∙◌}
-use Prim.Native.Nat.{ℕ, ◌^◌, ◌≤◌}
-use native.Mathlib.Omega.{arith}
-use lib.Pow.{pow_pos}
+use Rattle.std.proofs.Common.{◌≡◌, sym, ◌∙◌, ℕ, ◌^◌, ◌≤◌, arith, pow_pos}
 use Rattle.base.specs.Arith.{next_power, next_is_power, next_is}
 use Rattle.table.specs.Insert.{slots_for}
 

@@ -1,12 +1,6 @@
 -- A rebuild: the live entries re-placed in slot order over emptied slots. Each walk for a place ends, and the table then has structure,
 -- no removed mark, and exactly the entries that it had. A sound table is sound again.
-use mathlib.Core.Path.{◌≡◌, refl, sym, ◌∙◌}
-use mathlib.Core.Logic.{◌↔◌}
-use mathlib.Core.Bool.{true, false}
-use mathlib.Core.List.{List}
-use Prim.Native.Nat.{ℕ, suc, ◌+◌, ◌*◌, ◌^◌, ◌<◌, ◌≤◌}
-use native.Mathlib.Omega.{arith}
-use lib.ListN.{length}
+use Rattle.std.proofs.Common.{◌≡◌, refl, sym, ◌∙◌, ◌↔◌, true, false, List, ℕ, suc, ◌+◌, ◌*◌, ◌^◌, ◌<◌, ◌≤◌, arith, length}
 use Rattle.base.specs.Below.{one}
 use Rattle.base.specs.SumLaws.{sum-zero}
 use Rattle.table.specs.Slots.{is_live, is_removed, id_of, entry_at, put_entry}

@@ -1,14 +1,6 @@
 -- Removing the entry of a live slot: the table is sound again, of 0 slots when the last entry went, and holds exactly what it held but
 -- the entry removed, whose id is then absent.
-use mathlib.Core.Path.{◌≡◌, refl, sym, ap, ◌∙◌}
-use mathlib.Core.Logic.{◌↔◌, ◌≢◌}
-use mathlib.Core.Bool.{Bool, true, false}
-use mathlib.Core.List.{List}
-use Prim.Native.Nat.{ℕ, ◌+◌, ◌-◌, ◌*◌, ◌<◌, ◌≤◌}
-use native.Mathlib.Omega.{arith}
-use borrow.Author.Tests.{ltb-true, ltb-false}
-use lib.Dec.{ltb}
-use lib.ListN.{length}
+use Rattle.std.proofs.Common.{◌≡◌, refl, sym, ap, ◌∙◌, ◌↔◌, ◌≢◌, Bool, true, false, List, ℕ, ◌+◌, ◌-◌, ◌*◌, ◌<◌, ◌≤◌, arith, ltb-true, ltb-false, ltb, length}
 use Rattle.table.specs.Slots.{is_live, id_at, entry_at, put_mark}
 use Rattle.table.specs.Walk.{search}
 use Rattle.table.specs.Insert.{Table, removed_at}

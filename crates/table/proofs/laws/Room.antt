@@ -1,9 +1,7 @@
 -- The slot count of a rebuild: room for the live entries and one more, and again a count that a sound table may have.
-use mathlib.Core.Path.{◌≡◌}
-use mathlib.Core.Logic.{by_cases}
-use Prim.Native.Nat.{ℕ, ◌+◌, ◌*◌, ◌^◌, ◌≤◌, ◌<◌}
-use native.Mathlib.Decide.{dec_le}
-use native.Mathlib.Omega.{arith}
+use Rattle.std.proofs.Common.{◌≡◌, ℕ, ◌+◌, ◌*◌, ◌^◌, ◌≤◌, ◌<◌, arith}
+use Rattle.std.proofs.Math.Decide.{dec_le}
+use Rattle.std.proofs.Math.Logic.{by_cases}
 use Rattle.base.specs.Arith.{next_power, next_is_power, next_le, next_least, next_mono}
 use Rattle.table.specs.Insert.{slots_for, room_for}
 use Rattle.table.specs.Sound.{Capacity}

@@ -1,14 +1,6 @@
 -- What a write to slot i does: slot i is then what was written, and every other slot is what it was. The writes are `put_entry`,
 -- `put_mark`, and `set ws (4 * i + 3) 0`, which empties the slot.
-use mathlib.Core.Path.{◌≡◌, ap}
-use mathlib.Core.Logic.{◌≢◌}
-use mathlib.Core.Bool.{true, false}
-use mathlib.Core.List.{List}
-use Prim.Native.Nat.{ℕ, ◌+◌, ◌*◌, ◌/◌, ◌%◌, ◌^◌, ◌<◌}
-use native.Mathlib.Omega.{arith}
-use lib.Dec.{eqb}
-use lib.ListN.{length, get_or, set, length-set}
-use lib.Seq.{get_or-set_same, get_or-set_other}
+use Rattle.std.proofs.Common.{◌≡◌, ap, ◌≢◌, true, false, List, ℕ, ◌+◌, ◌*◌, ◌/◌, ◌%◌, ◌^◌, ◌<◌, arith, eqb, length, get_or, set, length-set, get_or-set_same, get_or-set_other}
 use Rattle.base.specs.Stores.{stores}
 use Rattle.token.specs.Token.{id_of as token_id}
 use Rattle.table.specs.Slots.{kind_at, is_empty, is_removed, is_live, id_at, id_of, entry_at, put_entry, put_mark}

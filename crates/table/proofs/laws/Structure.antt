@@ -1,15 +1,9 @@
 -- The structure of a table: what its slots keep between placings, also those of a rebuild, when the rules about room and capacity
 -- wait. An entry of an id that is not live may be placed, a live slot may be marked removed, and the structure stays.
-use mathlib.Core.Path.{◌≡◌, refl, sym, ap, ◌∙◌}
-use mathlib.Core.Logic.{◌≢◌, by_cases}
-use mathlib.Core.Bool.{Bool, true, false, not}
-use mathlib.Core.List.{List}
-use Prim.Native.Nat.{ℕ, zero, suc, ◌+◌, ◌-◌, ◌*◌, ◌^◌, ◌<◌, ◌≤◌}
-use native.Mathlib.Decide.{ℕ_discrete}
-use native.Mathlib.Omega.{arith}
-use borrow.Author.Tests.{eqb-true, not-true, not-false}
-use lib.Dec.{eqb}
-use lib.ListN.{length, length-set}
+use Rattle.std.proofs.Common.{◌≡◌, refl, sym, ap, ◌∙◌, ◌≢◌, Bool, true, false, not, List, ℕ, zero, suc, ◌+◌, ◌-◌, ◌*◌, ◌^◌, ◌<◌, ◌≤◌, arith, eqb-true, eqb, length, length-set}
+use Rattle.std.proofs.Math.Decide.{ℕ_discrete}
+use Rattle.std.proofs.Math.Logic.{by_cases}
+use Rattle.std.proofs.lemmas.Bool.{not-true, not-false}
 use Rattle.base.specs.Below.{one}
 use Rattle.base.specs.FirstLaws.{first_passes, first_before}
 use Rattle.base.specs.SumLaws.{sum-zero, sum_const_zero, sum_positive, sum_update}

@@ -1,13 +1,6 @@
 -- The test of a table is the rules: each test is true exactly when its rule holds, and all together exactly when the table is sound.
-use mathlib.Core.Path.{◌≡◌, refl, ap}
-use mathlib.Core.Logic.Iff
-use mathlib.Core.Logic.{◌↔◌}
-use mathlib.Core.Bool.{Bool, true, false}
-use mathlib.Core.List.{List}
-use Prim.Native.Nat.{ℕ, ◌+◌, ◌*◌, ◌≤◌}
-use native.Mathlib.Omega.{arith}
-use borrow.Author.Tests.{eqb-true, eq-eqb, ne_eqb}
-use lib.Dec.{eqb, leb}
+use Rattle.std.proofs.Common.{◌≡◌, refl, ap, ◌↔◌, Bool, true, false, List, ℕ, ◌+◌, ◌*◌, ◌≤◌, arith, eqb-true, eq-eqb, ne_eqb, eqb, leb}
+use Rattle.std.proofs.Math.Logic.Iff
 use Rattle.base.specs.Arith.{next_power}
 use Rattle.base.specs.Choose.{pick, both}
 use Rattle.base.specs.Exactly.{tests, both_exactly, eqb_exactly}

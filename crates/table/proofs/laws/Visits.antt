@@ -2,15 +2,10 @@
 -- Each slot that a walk passes is live or removed and it passes none twice, so its steps are at most the two counts together.
 -- The first part asks only what a table in the middle of a rebuild has too; the second says it of a search of a sound table. Structure,
 -- Rebuild and Insert say it of the walk for a free place.
-use mathlib.Core.Path.{◌≡◌, refl, ap}
-use mathlib.Core.Logic.{by_cases}
-use mathlib.Core.Bool.{Bool, true, false, not, true≢false}
-use mathlib.Core.List.{List}
-use Prim.Native.Nat.{ℕ, zero, suc, ◌+◌, ◌<◌, ◌≤◌}
-use native.Mathlib.Decide.{dec_lt}
-use native.Mathlib.Omega.{arith}
-use borrow.Author.Tests.{eqb-true, not-false}
-use lib.Dec.{eqb}
+use Rattle.std.proofs.Common.{◌≡◌, refl, ap, Bool, true, false, not, true≢false, List, ℕ, zero, suc, ◌+◌, ◌<◌, ◌≤◌, arith, eqb-true, eqb}
+use Rattle.std.proofs.Math.Decide.{dec_lt}
+use Rattle.std.proofs.Math.Logic.{by_cases}
+use Rattle.std.proofs.lemmas.Bool.{not-false}
 use Rattle.base.specs.Choose.{pick}
 use Rattle.base.specs.Below.{sum, one, first}
 use Rattle.base.specs.FirstLaws.{first-le, first_before}

@@ -1,11 +1,6 @@
 -- The walk of an id over c slots: it starts at home, goes up by one and around, and in c steps meets no slot twice.
-use mathlib.Core.Path.{◌≡◌}
-use mathlib.Core.Logic.{⊎_elim}
-use mathlib.Core.List.{List}
-use Prim.Native.Nat.{ℕ, ◌+◌, ◌%◌, ◌<◌, ◌≤◌}
-use native.Mathlib.Nat.{mod-lt, mod-mod, mod-add-mod, add-zero, add_assoc}
-use native.Mathlib.Omega.{arith}
-use borrow.Author.Tests.{lt-ltb, le-ltb}
+use Rattle.std.proofs.Common.{◌≡◌, ⊎_elim, List, ℕ, ◌+◌, ◌%◌, ◌<◌, ◌≤◌, mod-lt, add-zero, add_assoc, arith, lt-ltb, le-ltb}
+use Rattle.std.proofs.Math.Nat.{mod-mod, mod-add-mod}
 use Rattle.base.specs.Around.{wrap}
 use Rattle.base.specs.Choose.{pick}
 use Rattle.table.specs.Slots.{is_live}

@@ -1,12 +1,4 @@
-use mathlib.Core.Path.{◌≡◌, ap, ◌∙◌}
-use mathlib.Core.Bool.{Bool, true}
-use mathlib.Core.List.{List}
-use Prim.Native.Nat.{ℕ, ◌<◌}
-use native.Mathlib.Omega.{arith}
-use borrow.Author.Rules.{rules}
-use borrow.Author.Tests.{ltb-true}
-use lib.Dec.{ltb}
-use lib.ListN.{length, get_or}
+use Rattle.std.proofs.Common.{◌≡◌, ap, ◌∙◌, Bool, true, List, ℕ, ◌<◌, arith, rules, ltb-true, ltb, length, get_or}
 use Rattle.base.specs.Below.{all}
 use Rattle.base.specs.AllLaws.{all_at, all_tests}
 use Rattle.table.specs.Sound.{ends_here}

@@ -1,9 +1,6 @@
 -- `table_look::all_found` meets its contract: the searches of the first j slots end where they must. The measure is what is left of
 -- the list.
-use mathlib.Core.Path.{◌≡◌}
-use mathlib.Core.Bool.{true}
-use Prim.Native.Nat.{◌-◌, ◌≤◌}
-use lib.ListN.{length, get_or}
+use Rattle.std.proofs.Common.{◌≡◌, true, ◌-◌, ◌≤◌, length, get_or}
 use Rattle.base.specs.Below.{all}
 use Rattle.table.specs.Sound.{ends_here}
 use Rattle.table_look.proofs.all_found.Given as goal

@@ -1,12 +1,7 @@
 -- `table_look::is_sound` meets its contract: it makes the tests of `sound_test` in another order, the capacity first, which keeps the
 -- rest in range.
-use Rattle.std.proofs.Common.{ap}
-use mathlib.Core.Path.{◌≡◌, sym, ◌∙◌}
-use mathlib.Core.Bool.{Bool, true, false, not, true≢false}
-use mathlib.Core.List.{List}
-use Prim.Native.Nat.{ℕ, ◌≤◌}
-use native.Mathlib.Omega.{arith}
-use borrow.Author.Tests.{not-true, not-false}
+use Rattle.std.proofs.Common.{ap, ◌≡◌, sym, ◌∙◌, Bool, true, false, not, true≢false, List, ℕ, ◌≤◌, arith}
+use Rattle.std.proofs.lemmas.Bool.{not-true, not-false}
 use Rattle.base.specs.Choose.{both, both_left, both_right, both_make, refuted}
 use Rattle.table.specs.Insert.{slots_for}
 use Rattle.table.specs.Sound.{coded_test, capacity_test, agree_test, room_test, unused_test, most_test, found_test, sound_test}

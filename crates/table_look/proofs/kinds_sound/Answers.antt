@@ -1,14 +1,4 @@
-use mathlib.Core.Path.{◌≡◌, refl, ◌∙◌}
-use mathlib.Core.Bool.{Bool, false}
-use mathlib.Core.List.{List}
-use mathlib.Core.Logic.{◌≢◌}
-use Prim.Native.Nat.{ℕ, ◌+◌, ◌≤◌, ◌<◌}
-use native.Mathlib.Nat.{le_antisymm}
-use native.Mathlib.Omega.{arith}
-use borrow.Author.Rules.{rules}
-use borrow.Author.Tests.{eq-eqb, ne_eqb}
-use lib.Dec.{eqb}
-use lib.ListN.{set}
+use Rattle.std.proofs.Common.{◌≡◌, refl, ◌∙◌, Bool, false, List, ◌≢◌, ℕ, ◌+◌, ◌≤◌, ◌<◌, le_antisymm, arith, rules, eq-eqb, ne_eqb, eqb, set}
 use Rattle.base.specs.Choose.{both}
 use Rattle.base.specs.Below.{sum, one}
 use Rattle.base.specs.Compacted.{all_passing, compact_starts, compact_goes}

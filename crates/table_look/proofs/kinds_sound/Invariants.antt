@@ -1,8 +1,6 @@
 -- `table_look::kinds_sound` meets its contract. The invariant: the first i slots are counted by kind, and the numbers of the live ones
 -- are written. The measure is the slots that are left.
-use mathlib.Core.Path.{◌≡◌}
-use mathlib.Core.List.{List}
-use Prim.Native.Nat.{ℕ, ◌-◌, ◌≤◌}
+use Rattle.std.proofs.Common.{◌≡◌, List, ℕ, ◌-◌, ◌≤◌}
 use Rattle.base.specs.Compacted.{passing, Compacting}
 use Rattle.table.specs.Slots.{is_live, is_removed}
 use Rattle.table.specs.Sound.{coded_at}

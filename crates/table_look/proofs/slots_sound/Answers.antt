@@ -1,13 +1,7 @@
 -- `table_look::slots_sound` meets its contract: the listed slots are the live ones, so that their searches are those of `found_test`.
-use mathlib.Core.Path.{◌≡◌, refl, sym, ap, ◌∙◌}
-use mathlib.Core.Bool.{Bool, true, false, not}
-use mathlib.Core.List.{List}
-use Prim.Native.Nat.{ℕ, ◌≤◌, ◌<◌}
-use native.Mathlib.Omega.{arith}
-use borrow.Author.Tests.{not-false, eqb-true, lt-ltb}
-use lib.Dec.{eqb, ltb}
-use lib.ListN.{length, get_or, take, replicate, length-replicate}
-use lib.Seq.{length-take-le, get_or-take}
+use Rattle.std.proofs.Common.{◌≡◌, refl, sym, ap, ◌∙◌, Bool, true, false, not, List, ℕ, ◌≤◌, ◌<◌, arith, eqb-true, lt-ltb, eqb, ltb, length, get_or, take, replicate, length-take-le, get_or-take}
+use Rattle.std.proofs.Math.ListN.{length-replicate}
+use Rattle.std.proofs.lemmas.Bool.{not-false}
 use Rattle.base.specs.Below.{all}
 use Rattle.base.specs.AllLaws.{all_make, all_ext}
 use Rattle.base.specs.Choose.{pick, both, both_left, both_right}

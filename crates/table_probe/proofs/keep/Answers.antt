@@ -1,5 +1,5 @@
 -- `table_probe::keep` meets its contract: its four stores are the definition's.
-use borrow.Author.Rules.{rules}
+use Rattle.std.proofs.Common.{rules}
 use Rattle.table_probe.specs.Numbers.{keeps}
 use Rattle.table_probe.proofs.keep.Goals as goal
 

@@ -1,5 +1,5 @@
 -- `main` is safe and ends: each turn takes one of the places left.
-use Prim.Native.Nat.{◌-◌}
+use Rattle.std.proofs.Common.{◌-◌}
 use Rattle.token_replay.proofs.main.Given as goal
 
 abbrev pub invariant-loop-place : goal.invariant-loop-place

@@ -1,10 +1,6 @@
 -- An entry of each id of a live slot is what the slots count.
-use mathlib.Core.List.{List}
-use mathlib.Core.Path.{◌≡◌, ap, ◌∙◌}
-use Prim.Native.Nat.{ℕ, ◌≤◌}
-use native.Mathlib.Omega.{arith}
-use lib.ListN.{length, take, replicate, length-replicate}
-use lib.Seq.{length-take-le, get_or-take}
+use Rattle.std.proofs.Common.{List, ◌≡◌, ap, ◌∙◌, ℕ, ◌≤◌, arith, length, take, replicate, length-take-le, get_or-take}
+use Rattle.std.proofs.Math.ListN.{length-replicate}
 use Rattle.registry.specs.Counts.{count_entries, entries_ext}
 use Rattle.space.proofs.Lent.{lent_rest}
 use Rattle.world_look.specs.Look.{count_slots, live_below, live_ids, length_live, live_counted}
@@ -35,5 +31,6 @@ module _
 
 pub returns : goal.returns
 returns c =
-    let told = c.live_ids-n.ensures.value in let written = c.live_ids-n.ensures.ids_after in
+    let told = c.live_ids-n.ensures.value in
+    let written = c.live_ids-n.ensures.ids_after in
     counted _ _ _ _ (omega arith) told written _ _ _ c.count_entries.ensures ∙ rw lent_rest

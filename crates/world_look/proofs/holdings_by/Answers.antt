@@ -1,12 +1,6 @@
 -- What is lent is the registry. Its rules give the index of its ids, the index the count of the spaces' entries, the count the holders'
 -- rule.
-use mathlib.Core.Bool.{Bool, true, false}
-use mathlib.Core.List.{List}
-use mathlib.Core.Path.{◌≡◌, sym, ◌∙◌}
-use Prim.Native.Nat.{ℕ, ◌+◌, ◌-◌, ◌*◌, ◌≤◌}
-use native.Mathlib.Omega.{arith}
-use lib.ListN.{length, get_or, take, drop}
-use lib.Seq.{length-take-le}
+use Rattle.std.proofs.Common.{Bool, true, false, List, ◌≡◌, sym, ◌∙◌, ℕ, ◌+◌, ◌-◌, ◌*◌, ◌≤◌, arith, length, get_or, take, drop, length-take-le}
 use Rattle.base.specs.Chain.{Chained}
 use Rattle.base.specs.Choose.{both_left}
 use Rattle.base.specs.Distinct.{all_different, differ_test, differ_take}
@@ -37,7 +31,9 @@ placed :
     → Placed c.args.d c.args.mem.now c.args.heads.now c.args.prevs.now
     c.args.counts.now c.registry_at-start.result
 placed c =
-    let head = c.requires.headed in let unindexed = c.requires.chained in let (room, uncounted) = c.requires.mem_in_bounds in
+    let head = c.requires.headed in
+    let unindexed = c.requires.chained in
+    let (room, uncounted) = c.requires.mem_in_bounds in
     record { head = head; unindexed = unindexed; room = room; uncounted = uncounted; start_is = c.registry_at-start.ensures.is }
 
 -- ---- the tests, in the code's order
@@ -113,13 +109,15 @@ returns-then-not-registry_sound c =
 pub spaces_sound-requires-clause-looked : goal.spaces_sound-requires-clause-looked
 spaces_sound-requires-clause-looked c =
     let p = placed (goal.at.spaces_sound-requires-clause-looked c).After-registry_at-start in
-    let told = c.registry_sound.ensures.value in let index = c.registry_sound.ensures.chained_2 in
+    let told = c.registry_sound.ensures.value in
+    let index = c.registry_sound.ensures.chained_2 in
     let passed = c.if-not-registry_sound.false in counts_none p told passed
 
 pub returns : goal.returns
 returns c =
     let passed = c.if-not-registry_sound.false in
-    let told = c.spaces_sound.ensures.value in let tally = c.spaces_sound.ensures.looked_2 in
+    let told = c.spaces_sound.ensures.value in
+    let tally = c.spaces_sound.ensures.looked_2 in
     let still = c.if-not-spaces_sound.false in
     holders_decide (placed (goal.at.returns c).After-registry_at-start) c.registry_sound.ensures.value passed told still (tally still)
     c.holders_within.ensures

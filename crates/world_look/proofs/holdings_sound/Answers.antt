@@ -1,10 +1,6 @@
 -- Fresh arrays index nothing and have counted nothing; the larger ones have room for all ids.
-use mathlib.Core.List.{List}
-use mathlib.Core.Path.{◌≡◌}
-use Prim.Native.Nat.{ℕ, ◌+◌, ◌*◌, ◌^◌, ◌<◌, ◌≤◌}
-use native.Mathlib.Omega.{arith}
-use lib.ListN.{length, replicate, length-replicate}
-use lib.Seq.{length-take-le}
+use Rattle.std.proofs.Common.{List, ◌≡◌, ℕ, ◌+◌, ◌*◌, ◌^◌, ◌<◌, ◌≤◌, arith, length, replicate, length-take-le}
+use Rattle.std.proofs.Math.ListN.{length-replicate}
 use Rattle.base.specs.Chain.{Chained, chained_none}
 use Rattle.registry.specs.Counts.{at_most_none}
 use Rattle.world.specs.Numbers.{registered_of}

@@ -1,11 +1,6 @@
 -- The first test that fails decides. Memory without a head is too short for any numbers.
-use mathlib.Core.Bool.{Bool, false, not}
-use mathlib.Core.List.{List}
-use mathlib.Core.Path.{◌≡◌, sym, ◌∙◌}
-use Prim.Native.Nat.{ℕ, ◌<◌}
-use native.Mathlib.Omega.{arith}
-use borrow.Author.Tests.{not-false, lt-leb}
-use lib.ListN.{length}
+use Rattle.std.proofs.Common.{Bool, false, not, List, ◌≡◌, sym, ◌∙◌, ℕ, ◌<◌, arith, length}
+use Rattle.std.proofs.lemmas.Bool.{not-false, lt-leb}
 use Rattle.base.specs.Choose.{both, both_false}
 use Rattle.world.specs.Numbers.{numbers_of}
 use Rattle.world.specs.Regions.{length_for}

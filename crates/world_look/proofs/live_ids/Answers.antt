@@ -1,8 +1,4 @@
-use mathlib.Core.List.{List}
-use mathlib.Core.Path.{◌≡◌}
-use Prim.Native.Nat.{ℕ, ◌+◌, ◌≤◌, ◌<◌}
-use borrow.Author.Rules.{rules}
-use lib.ListN.{set}
+use Rattle.std.proofs.Common.{List, ◌≡◌, ℕ, ◌+◌, ◌≤◌, ◌<◌, rules, set}
 use Rattle.base.specs.Below.{one}
 use Rattle.base.specs.Compacted.{Compacting, compact_starts, compact_goes, compact_ends}
 use Rattle.table.specs.Slots.{is_live, id_at, id_of, entry_at}

@@ -1,5 +1,5 @@
 -- The ids of the live ones among the first i slots are written, and n is how many they are.
-use Prim.Native.Nat.{◌-◌}
+use Rattle.std.proofs.Common.{◌-◌}
 use Rattle.base.specs.Compacted.{Compacting}
 use Rattle.table.specs.Slots.{is_live, id_at}
 use Rattle.world_look.proofs.live_ids.Given as goal

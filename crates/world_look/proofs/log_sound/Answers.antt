@@ -1,7 +1,5 @@
 -- What is lent is the log.
-use mathlib.Core.Path.{refl, ◌∙◌}
-use Prim.Native.Nat.{◌+◌}
-use native.Mathlib.Omega.{arith}
+use Rattle.std.proofs.Common.{refl, ◌∙◌, ◌+◌, arith}
 use Rattle.world.specs.Regions.{log, length_for}
 use Rattle.world.specs.Sound.{logged_test}
 use Rattle.world.specs.Views.{lent_view}

@@ -1,10 +1,5 @@
 -- What is lent is the queues, one after the other.
-use mathlib.Core.Bool.{Bool}
-use mathlib.Core.List.{List}
-use mathlib.Core.Path.{◌≡◌, ◌∙◌}
-use Prim.Native.Nat.{ℕ, ◌-◌, ◌*◌}
-use native.Mathlib.Omega.{arith}
-use lib.ListN.{take, drop, length-take, length-drop}
+use Rattle.std.proofs.Common.{Bool, List, ◌≡◌, ◌∙◌, ℕ, ◌-◌, ◌*◌, arith, take, drop, length-take, length-drop}
 use Rattle.revocation.specs.Sound as rules
 use Rattle.world.specs.Lent.{queues_passed}
 use Rattle.world.specs.Regions.{queue, queues_at, length_for, start_of}

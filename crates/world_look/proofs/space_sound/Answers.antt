@@ -1,12 +1,6 @@
 -- What is lent is the space; if it is sound, its slots fit its words.
-use mathlib.Core.Bool.{Bool, false, not}
-use mathlib.Core.List.{List}
-use mathlib.Core.Path.{◌≡◌, sym, ◌∙◌}
-use Prim.Native.Nat.{ℕ, ◌+◌, ◌-◌, ◌*◌, ◌≤◌, ◌<◌}
-use native.Mathlib.Omega.{arith}
-use borrow.Author.Rules.{rules}
-use borrow.Author.Tests.{not-false}
-use lib.ListN.{length, take, drop}
+use Rattle.std.proofs.Common.{Bool, false, not, List, ◌≡◌, sym, ◌∙◌, ℕ, ◌+◌, ◌-◌, ◌*◌, ◌≤◌, ◌<◌, arith, rules, length, take, drop}
+use Rattle.std.proofs.lemmas.Bool.{not-false}
 use Rattle.space.specs.Sound.{SoundSpace, space_test}
 use Rattle.space.specs.Words.{table_of, slot_words, words_for}
 use Rattle.space.proofs.laws.Tests.{space_exactly}

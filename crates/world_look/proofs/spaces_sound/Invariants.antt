@@ -1,7 +1,5 @@
 -- The first s spaces are looked at.
-use mathlib.Core.Path.{◌≡◌}
-use Prim.Native.Nat.{◌-◌, ◌≤◌}
-use lib.ListN.{length}
+use Rattle.std.proofs.Common.{◌≡◌, ◌-◌, ◌≤◌, length}
 use Rattle.world_look.specs.Look.{Looked}
 use Rattle.world_look.proofs.spaces_sound.Given as goal
 

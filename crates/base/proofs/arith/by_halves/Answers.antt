@@ -1,10 +1,7 @@
 -- `base::arith::by_halves` meets its contract: the schoolbook product of two numbers of two digits, of which the lower two are kept.
-use mathlib.Core.Path.{◌≡◌}
-use Prim.Native.Nat.{ℕ, ◌+◌, ◌*◌, ◌/◌, ◌%◌, ◌^◌, ◌<◌}
-use native.Mathlib.Nat.{mod-lt, div-add-mod', add-mod, mod-add-mod, mul-add-mod_self_right}
-use native.Mathlib.Omega.{arith}
-use lib.Dec.{lit<}
-use lib.Arith.{digits_div, digits_mod, mod-mul}
+use Rattle.std.proofs.Common.{◌≡◌, ℕ, ◌+◌, ◌*◌, ◌/◌, ◌%◌, ◌^◌, ◌<◌, mod-lt, div-add-mod', arith, lit<}
+use Rattle.std.proofs.Math.Arith.{digits_div, digits_mod, mod-mul}
+use Rattle.std.proofs.Math.Nat.{add-mod, mod-add-mod, mul-add-mod_self_right}
 use Rattle.base.proofs.arith.by_halves.Goals as goal
 
 -- Two digits a1 a0 times two digits b1 b0 to the base h, keeping two digits.

@@ -1,10 +1,6 @@
 -- `base::arith::next_power_of_two` meets its contract: the bits of n - 1, which its leading zeros leave of 64, are the exponent.
-use mathlib.Core.Path.{◌≡◌, sym}
-use Prim.Native.Nat.{ℕ, ◌-◌, ◌*◌, ◌%◌, ◌^◌, ◌<◌, ◌≤◌}
-use native.Mathlib.Nat.{mod-eq_of_lt, one-mul}
-use native.Mathlib.Omega.{arith}
+use Rattle.std.proofs.Common.{◌≡◌, sym, ℕ, ◌-◌, ◌*◌, ◌%◌, ◌^◌, ◌<◌, ◌≤◌, mod-eq_of_lt, one-mul, arith, pow_mono}
 use lib.Count.{count_leading_zeros, leading_length}
-use lib.Pow.{pow_mono}
 use Rattle.base.specs.Arith.{next_power, next_of-zero, next_is}
 use Rattle.base.proofs.arith.next_power_of_two.Goals as goal
 

@@ -1,10 +1,5 @@
 -- `base::distinct::bucket` meets its contract: the upper half h of the product is below 2 ^ 32, so h / 2 ^ 32 of n is less than n.
-use mathlib.Core.Path.{ap}
-use Prim.Native.Nat.{ℕ, ◌*◌, ◌/◌, ◌^◌, ◌<◌, ◌≤◌}
-use native.Mathlib.Nat.{lt_of_lt_of_le, mul_comm, mul-le-mul_left, mul-lt-mul_of_pos_right, div-lt_iff_lt-mul}
-use native.Mathlib.Omega.{arith}
-use lib.Dec.{lit<}
-use lib.Pow.{shr_lt}
+use Rattle.std.proofs.Common.{ap, ℕ, ◌*◌, ◌/◌, ◌^◌, ◌<◌, ◌≤◌, lt_of_lt_of_le, mul_comm, mul-le-mul_left, mul-lt-mul_of_pos_right, div-lt_iff_lt-mul, arith, lit<, shr_lt}
 use Rattle.base.specs.Chain.{bucket_of}
 use Rattle.base.proofs.distinct.bucket.Goals as goal
 

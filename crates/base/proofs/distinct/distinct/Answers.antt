@@ -1,6 +1,5 @@
 -- `base::distinct::distinct` meets its contract: a list of one word or none has no two places, and fresh arrays index nothing.
-use mathlib.Core.Path.{sym}
-use native.Mathlib.Omega.{arith}
+use Rattle.std.proofs.Common.{sym, arith}
 use Rattle.base.specs.Distinct.{differ_exactly}
 use Rattle.base.specs.Chain.{chained_none}
 use Rattle.base.proofs.distinct.distinct.Goals as goal

@@ -1,13 +1,4 @@
-use mathlib.Core.Path.{◌≡◌, refl, sym, ◌∙◌}
-use mathlib.Core.Bool.{true, false}
-use mathlib.Core.List.{List}
-use Prim.Native.Nat.{ℕ, ◌+◌, ◌<◌, ◌≤◌}
-use native.Mathlib.Nat.{le_antisymm}
-use native.Mathlib.Omega.{arith}
-use borrow.Author.Rules.{rules}
-use borrow.Author.Tests.{eq-eqb, ne_eqb}
-use lib.Dec.{eqb}
-use lib.ListN.{length, get_or, set, length-set}
+use Rattle.std.proofs.Common.{◌≡◌, refl, sym, ◌∙◌, true, false, List, ℕ, ◌+◌, ◌<◌, ◌≤◌, le_antisymm, arith, rules, eq-eqb, ne_eqb, eqb, length, get_or, set, length-set}
 use Rattle.base.specs.AllLaws.{all_none, all_more, all_broken}
 use Rattle.base.specs.LastLaws.{last_none}
 use Rattle.base.specs.Distinct.{is_new, differ_test, all_different}

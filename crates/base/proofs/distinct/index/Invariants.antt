@@ -1,10 +1,6 @@
 -- `base::distinct::index` meets its contract. The loop's invariant: the places below j are chained, and their words all new.
 -- The measure is what is left of the list.
-use mathlib.Core.Path.{◌≡◌}
-use mathlib.Core.Bool.{true}
-use mathlib.Core.List.{List}
-use Prim.Native.Nat.{ℕ, ◌-◌, ◌≤◌}
-use lib.ListN.{length, get_or}
+use Rattle.std.proofs.Common.{◌≡◌, true, List, ℕ, ◌-◌, ◌≤◌, length, get_or}
 use Rattle.base.specs.Below.{all}
 use Rattle.base.specs.Distinct.{is_new}
 use Rattle.base.specs.Chain.{Chained}

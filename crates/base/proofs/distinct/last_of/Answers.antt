@@ -1,13 +1,4 @@
-use mathlib.Core.Path.{◌≡◌, refl, sym, ap, ◌∙◌}
-use mathlib.Core.Bool.{true}
-use mathlib.Core.List.{List}
-use mathlib.Core.Logic.{◌≢◌}
-use Prim.Native.Nat.{ℕ, suc, ◌-◌, ◌<◌, ◌≤◌}
-use native.Mathlib.Nat.{le_refl}
-use native.Mathlib.Omega.{arith}
-use borrow.Author.Rules.{rules}
-use borrow.Author.Tests.{eqb-true, eq-eqb, ne_eqb}
-use lib.ListN.{length, get_or}
+use Rattle.std.proofs.Common.{◌≡◌, refl, sym, ap, ◌∙◌, true, List, ◌≢◌, ℕ, suc, ◌-◌, ◌<◌, ◌≤◌, le_refl, arith, rules, eqb-true, eq-eqb, ne_eqb, length, get_or}
 use Rattle.base.specs.Below.{last}
 use Rattle.base.specs.LastLaws.{last_here, last_past, last_le, last_passes, last_last}
 use Rattle.base.specs.Chain.{bucket_of, in_bucket, Chained}

@@ -1,9 +1,6 @@
 -- `base::distinct::last_of` meets its contract. The walk's invariant: the last place that holds the word is below `at`, and the place
 -- that `at` names is of the word's bucket. The measure is `at`, since a link goes down.
-use mathlib.Core.Path.{◌≡◌}
-use mathlib.Core.List.{List}
-use Prim.Native.Nat.{ℕ, suc, ◌≤◌}
-use lib.ListN.{length, get_or}
+use Rattle.std.proofs.Common.{◌≡◌, List, ℕ, suc, ◌≤◌, length, get_or}
 use Rattle.base.specs.Below.{last}
 use Rattle.base.specs.Chain.{bucket_of}
 use Rattle.base.specs.Place.{holds}

@@ -1,11 +1,5 @@
 -- `base::distinct::place_of` meets its contract: the walk from the end of the list finds the last place.
-use mathlib.Core.Path.{◌≡◌, sym, ◌∙◌}
-use mathlib.Core.List.{List}
-use mathlib.Core.Logic.{◌≢◌}
-use Prim.Native.Nat.{ℕ, suc, ◌-◌}
-use native.Mathlib.Omega.{arith}
-use borrow.Author.Rules.{rules}
-use lib.ListN.{length}
+use Rattle.std.proofs.Common.{◌≡◌, sym, ◌∙◌, List, ◌≢◌, ℕ, suc, ◌-◌, arith, rules, length}
 use Rattle.base.specs.Place.{last_of, place_of}
 use Rattle.base.specs.declared.distinct.Place.TheVariants.{At, Nowhere}
 use Rattle.base.proofs.distinct.place_of.Goals as goal

@@ -1,4 +1,4 @@
-use borrow.Author.Rules.{rules}
+use Rattle.std.proofs.Common.{rules}
 use Rattle.base.specs.Shift.{shift_laws}
 use Rattle.base.proofs.shift.shift_down.Goals as goal
 

@@ -1,7 +1,5 @@
 -- The loop has filled the places from `at` to i - 1; what is left is a shift from i on.
-use mathlib.Core.Path.{◌≡◌}
-use Prim.Native.Nat.{◌-◌, ◌<◌}
-use lib.ListN.{length}
+use Rattle.std.proofs.Common.{◌≡◌, ◌-◌, ◌<◌, length}
 use Rattle.base.specs.Shift.{shifted_down}
 use Rattle.base.proofs.shift.shift_down.Given as goal
 

@@ -1,7 +1,5 @@
 -- The loop has filled the places from `end` down to i + 1; what is left is a shift up to i.
-use mathlib.Core.Path.{◌≡◌}
-use Prim.Native.Nat.{◌<◌, ◌≤◌}
-use lib.ListN.{length}
+use Rattle.std.proofs.Common.{◌≡◌, ◌<◌, ◌≤◌, length}
 use Rattle.base.specs.Shift.{shifted_up}
 use Rattle.base.proofs.shift.shift_up.Given as goal
 

@@ -1,8 +1,5 @@
 -- What was looked up decides, then GRANT; the rights go on cut down to both sets' common bits.
-use mathlib.Core.Bool.{Bool, true, false, not}
-use mathlib.Core.List.{List}
-use mathlib.Core.Path.{◌≡◌, sym, ap, ap₂, ◌∙◌}
-use Prim.Native.Nat.{ℕ, ◌^◌}
+use Rattle.std.proofs.Common.{Bool, true, false, not, List, ◌≡◌, sym, ap, ap₂, ◌∙◌, ℕ, ◌^◌}
 use Rattle.answers.specs.declared.Answer.TheVariants.{InvalidCapability, PermissionDenied}
 use Rattle.base.specs.Choose.{when_yes, when_no}
 use Rattle.space.specs.declared.LookedUp.{LookedUp}
@@ -36,7 +33,8 @@ module _ (d : Numbers) (target token rights : ℕ) (mem : List ℕ) (looked l : 
 
 pub returns-then-not-contains : goal.returns-then-not-contains
 returns-then-not-contains c =
-    let leaves = c.lookup-l.ensures.mem_after in let is = c.lookup-l.ensures.value in
+    let leaves = c.lookup-l.ensures.mem_after in
+    let is = c.lookup-l.ensures.value in
     left_is c.refusal-then-not-contains.ensures leaves
     (denied _ _ _ _ _ _ _ is _ c.in-Entry.is _ c.contains.ensures (ap not c.if-not-contains.true))
 
@@ -47,7 +45,8 @@ offer_or_derive-requires c =
 
 pub returns-else-not-contains : goal.returns-else-not-contains
 returns-else-not-contains c =
-    let leaves = c.lookup-l.ensures.mem_after in let is = c.lookup-l.ensures.value in
+    let leaves = c.lookup-l.ensures.mem_after in
+    let is = c.lookup-l.ensures.value in
     c.offer_or_derive.ensures
     ∙ granted _ _ _ _ _ _ _ is _ c.in-Entry.is _ c.contains.ensures (ap not c.if-not-contains.false) _
     c.intersection.ensures _ leaves

@@ -1,5 +1,5 @@
 -- A child that is held is the answer; where none is, a new one is made.
-use mathlib.Core.Path.{sym, ap, ◌∙◌}
+use Rattle.std.proofs.Common.{sym, ap, ◌∙◌}
 use Rattle.steps.proofs.Leaving.{left_is}
 use Rattle.delegation_calls.specs.Delegation.{with_room}
 use Rattle.delegation_calls.proofs.Offering.{offering_held, offering_absent, ready_offered}

@@ -1,5 +1,5 @@
 -- Where an id is taken, there is room to give it back.
-use mathlib.Core.Path.{sym, ap, ap₂, ◌∙◌}
+use Rattle.std.proofs.Common.{sym, ap, ap₂, ◌∙◌}
 use Rattle.steps.proofs.Leaving.{left_is}
 use Rattle.steps.proofs.laws.ReadyKept.{ready_take, take_room}
 use Rattle.delegation_calls.specs.Delegation.{derived, with_id}

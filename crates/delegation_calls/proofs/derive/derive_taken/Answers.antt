@@ -1,9 +1,5 @@
 -- The refusals in their order, by the place that was found; then the child is derived.
-use mathlib.Core.Bool.{Bool, true, false, not}
-use mathlib.Core.List.{List}
-use mathlib.Core.Path.{◌≡◌, sym, ap, ◌∙◌}
-use Prim.Native.Nat.{ℕ, ◌<◌, ◌≤◌}
-use lib.Dec.{ltb}
+use Rattle.std.proofs.Common.{Bool, true, false, not, List, ◌≡◌, sym, ap, ◌∙◌, ℕ, ◌<◌, ◌≤◌, ltb}
 use Rattle.manager_calls.specs.Tokens.{current}
 use Rattle.base.specs.Cases.{not_below, is_below, chooses}
 use Rattle.steps.specs.Replies.{Left}

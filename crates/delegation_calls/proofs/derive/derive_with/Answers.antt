@@ -1,5 +1,5 @@
 -- The parent gets its list, the child is registered behind the others, then admitted.
-use native.Mathlib.Omega.{arith}
+use Rattle.std.proofs.Common.{arith}
 use Rattle.manager_calls.proofs.Admitting.{room_registered}
 use Rattle.steps.proofs.laws.ReadyKept.{list_stays}
 use Rattle.delegation_calls.proofs.derive.derive_with.Goals as goal

@@ -1,11 +1,5 @@
 -- The children are counted, and after a collection again.
-use borrow.Author.Tests.{lt-ltb, le-ltb}
-use lib.Dec.{ltb}
-use mathlib.Core.Bool.{true, false, not}
-use mathlib.Core.List.{List}
-use mathlib.Core.Path.{◌≡◌, refl, sym, ap, ◌∙◌}
-use native.Mathlib.Omega.{arith}
-use Prim.Native.Nat.{ℕ, ◌<◌, ◌≤◌}
+use Rattle.std.proofs.Common.{lt-ltb, le-ltb, ltb, true, false, not, List, ◌≡◌, refl, sym, ap, ◌∙◌, arith, ℕ, ◌<◌, ◌≤◌}
 use Rattle.answers.specs.declared.Answer.TheVariants.{QuotaExceeded}
 use Rattle.base.specs.Choose.{when_yes, when_no}
 use Rattle.steps.proofs.Leaving.{left_is}

@@ -1,5 +1,4 @@
-use mathlib.Core.Path.{sym, ap, ◌∙◌}
-use borrow.Author.Rules.{rules}
+use Rattle.std.proofs.Common.{sym, ap, ◌∙◌, rules}
 use Rattle.delegation_calls.specs.Delegation.{Offered}
 use Rattle.delegation_calls.specs.Offer.{offer_of}
 use Rattle.delegation_calls.proofs.Offering.{none_left, found, passed, ready_offered}

@@ -1,8 +1,5 @@
 -- `stonespry_open` meets its contract: the opening's own answer, as a number.
-use mathlib.Core.List.{List}
-use mathlib.Core.Path.{◌≡◌, ap}
-use Prim.Native.Nat.{ℕ}
-use borrow.Author.Rules.{rules}
+use Rattle.std.proofs.Common.{List, ◌≡◌, ap, ℕ, rules}
 use Rattle.answers.specs.Number.{number_of}
 use Rattle.answers.specs.declared.Answer.{Answer}
 use Rattle.world.specs.Open.{OpenOut}

@@ -1,5 +1,5 @@
 -- `stonespry_flags_has` meets its contract: each arm's answer is the definition's for the arm's case.
-use mathlib.Core.Path.{sym, ◌∙◌}
+use Rattle.std.proofs.Common.{sym, ◌∙◌}
 use Rattle.host_tokens.specs.Answered.{has_answer}
 use Rattle.host_tokens.proofs.flags.stonespry_flags_has.Goals as goal
 

@@ -1,5 +1,5 @@
 -- The insert keeps the memory ready with its counts; its answer decides.
-use borrow.Author.Rules.{rules}
+use Rattle.std.proofs.Common.{rules}
 use Rattle.steps.proofs.laws.ReadyKept.{insert_stays}
 use Rattle.manager_calls.proofs.Admitting.{room_stays, admits, takes_back}
 use Rattle.manager_calls.proofs.admit.admit.Goals as goal

@@ -1,5 +1,5 @@
 -- The id leaves the registry, and is recycled, for which there is still room.
-use native.Mathlib.Omega.{arith}
+use Rattle.std.proofs.Common.{arith}
 use Rattle.steps.proofs.laws.ReadyKept.{unregister_leaves}
 use Rattle.manager_calls.proofs.Admitting.{room_left}
 use Rattle.manager_calls.proofs.admit.take_back.Goals as goal

@@ -1,8 +1,5 @@
 -- Entered, the token is looked up; its rights are tested, then whether it is valid.
-use mathlib.Core.Bool.{Bool, true, false, not}
-use mathlib.Core.List.{List}
-use mathlib.Core.Path.{◌≡◌, refl, sym, ap, ◌∙◌}
-use Prim.Native.Nat.{ℕ}
+use Rattle.std.proofs.Common.{Bool, true, false, not, List, ◌≡◌, refl, sym, ap, ◌∙◌, ℕ}
 use Rattle.answers.specs.declared.Answer.{Answer}
 use Rattle.answers.specs.declared.Answer.TheVariants.{Done, InsufficientRights, CapabilityRevoked}
 use Rattle.base.specs.Choose.{when, when_yes, when_no}

@@ -1,5 +1,5 @@
 -- Entered, the token is looked at.
-use mathlib.Core.Path.{ap, ◌∙◌}
+use Rattle.std.proofs.Common.{ap, ◌∙◌}
 use Rattle.base.specs.Below.{one}
 use Rattle.steps.proofs.Entering.{world_enters}
 use Rattle.steps.specs.Replies.{done}

@@ -1,7 +1,5 @@
 -- Entered, the type and the object's flag are looked at, then an id is taken.
-use mathlib.Core.List.{List}
-use mathlib.Core.Path.{◌≡◌, sym, ap₂, ◌∙◌}
-use Prim.Native.Nat.{ℕ}
+use Rattle.std.proofs.Common.{List, ◌≡◌, sym, ap₂, ◌∙◌, ℕ}
 use Rattle.steps.proofs.Entering.{space_ready, enters}
 use Rattle.base.specs.Cases.{chooses}
 use Rattle.steps.proofs.laws.ReadyKept.{ready_take, take_room}

@@ -1,8 +1,5 @@
 -- With no place free the id is given back; otherwise it is registered and admitted.
-use borrow.Author.Tests.{lt-ltb, le-ltb}
-use mathlib.Core.Bool.{not}
-use mathlib.Core.Path.{sym, ap, ap₂, ◌∙◌}
-use native.Mathlib.Omega.{arith}
+use Rattle.std.proofs.Common.{lt-ltb, le-ltb, not, sym, ap, ap₂, ◌∙◌, arith}
 use Rattle.base.specs.Choose.{when_yes, when_no}
 use Rattle.manager_calls.specs.Admit.{admitted}
 use Rattle.manager_calls.proofs.Admitting.{room_registered}

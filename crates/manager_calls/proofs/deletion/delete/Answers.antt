@@ -1,10 +1,5 @@
 -- Entered, the id is looked for, then the room among the recycled ids, then it leaves.
-use mathlib.Core.Bool.{not}
-use mathlib.Core.List.{List}
-use mathlib.Core.Path.{◌≡◌, sym, ◌∙◌}
-use Prim.Native.Nat.{ℕ}
-use borrow.Author.Rules.{rules}
-use lib.Dec.{ltb}
+use Rattle.std.proofs.Common.{not, List, ◌≡◌, sym, ◌∙◌, ℕ, rules, ltb}
 use Rattle.answers.specs.declared.Answer.TheVariants.{NotFound, RecycleFull}
 use Rattle.base.specs.Choose.{when}
 use Rattle.steps.proofs.Entering.{world_call, world_enters}

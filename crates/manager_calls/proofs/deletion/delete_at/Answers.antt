@@ -1,5 +1,5 @@
 -- The id leaves the registry, joins the recycled ones, and is counted.
-use native.Mathlib.Omega.{arith}
+use Rattle.std.proofs.Common.{arith}
 use Rattle.steps.proofs.laws.ReadyKept.{unregister_leaves}
 use Rattle.manager_calls.proofs.deletion.delete_at.Goals as goal
 

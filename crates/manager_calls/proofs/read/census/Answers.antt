@@ -1,5 +1,5 @@
 -- Entered, the entries of the space are looked through.
-use mathlib.Core.Path.{ap, ◌∙◌}
+use Rattle.std.proofs.Common.{ap, ◌∙◌}
 use Rattle.steps.proofs.Entering.{enters}
 use Rattle.steps.specs.Replies.{done}
 use Rattle.manager_calls.specs.Calls.{census_out}

@@ -1,5 +1,5 @@
 -- Entered, the registry is read.
-use mathlib.Core.Path.{ap₂}
+use Rattle.std.proofs.Common.{ap₂}
 use Rattle.answers.specs.declared.Answer.TheVariants.{Done}
 use Rattle.steps.proofs.Entering.{world_enters}
 use Rattle.manager_calls.specs.Calls.{tree_stats_out}

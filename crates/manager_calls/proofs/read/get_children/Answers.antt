@@ -1,9 +1,5 @@
 -- Entered, an id too large is refused, then an area too short; else the children are written to it.
-use mathlib.Core.List.{List}
-use mathlib.Core.Path.{◌≡◌, refl, sym, ◌∙◌}
-use Prim.Native.Nat.{ℕ, ◌<◌, ◌≤◌}
-use native.Mathlib.Omega.{arith}
-use lib.ListN.{length}
+use Rattle.std.proofs.Common.{List, ◌≡◌, refl, sym, ◌∙◌, ℕ, ◌<◌, ◌≤◌, arith, length}
 use Rattle.answers.specs.declared.Answer.TheVariants.{BadField}
 use Rattle.base.specs.Written.{written}
 use Rattle.registry.specs.Children.{child_ids}

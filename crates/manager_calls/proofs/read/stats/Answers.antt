@@ -1,5 +1,5 @@
 -- Entered, the words of the head are answered.
-use borrow.Author.Rules.{rules}
+use Rattle.std.proofs.Common.{rules}
 use Rattle.steps.proofs.Entering.{world_enters}
 use Rattle.manager_calls.specs.Calls.{stats_out}
 use Rattle.manager_calls.proofs.read.stats.Goals as goal

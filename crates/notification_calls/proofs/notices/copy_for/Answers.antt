@@ -1,10 +1,5 @@
 -- A queue with notices has its place and is copied; where there are none, the area stays.
-use mathlib.Core.List.{List}
-use mathlib.Core.Path.{◌≡◌, refl, sym, ◌∙◌}
-use Prim.Native.Nat.{ℕ, ◌*◌, ◌<◌, ◌≤◌}
-use native.Mathlib.Omega.{arith}
-use borrow.Author.Tests.{lt-ltb}
-use lib.ListN.{length}
+use Rattle.std.proofs.Common.{List, ◌≡◌, refl, sym, ◌∙◌, ℕ, ◌*◌, ◌<◌, ◌≤◌, arith, lt-ltb, length}
 use Rattle.base.specs.Written.{written}
 use Rattle.revocation.specs.Queue.{notices}
 use Rattle.steps.proofs.laws.Ready.{queues_ready_at}

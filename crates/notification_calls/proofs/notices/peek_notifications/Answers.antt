@@ -1,5 +1,5 @@
 -- Entered, an area too short for the notices of the pid's queue is refused; else they are copied to it.
-use native.Mathlib.Omega.{arith}
+use Rattle.std.proofs.Common.{arith}
 use Rattle.steps.proofs.Entering.{world_sound}
 use Rattle.notification_calls.specs.Calls.{peek_out}
 use Rattle.notification_calls.proofs.Noticing.{few_for, noticing}

@@ -1,6 +1,5 @@
 -- Entered, an id too large is refused, then a number that is no reason's, then a notice without a place; else it joins.
-use mathlib.Core.Bool.{Bool}
-use mathlib.Core.Path.{◌≡◌, sym, ◌∙◌}
+use Rattle.std.proofs.Common.{Bool, ◌≡◌, sym, ◌∙◌}
 use Rattle.steps.proofs.WorldCalls.{world_calls}
 use Rattle.steps.proofs.laws.Ready.{queues_ready_at}
 use Rattle.notification_calls.specs.Calls.{notify_out}

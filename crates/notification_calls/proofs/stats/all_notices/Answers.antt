@@ -1,4 +1,4 @@
-use borrow.Author.Rules.{rules}
+use Rattle.std.proofs.Common.{rules}
 use Rattle.notification_calls.proofs.stats.all_notices.Invariants.{starts, ends, counts}
 use Rattle.notification_calls.proofs.stats.all_notices.Goals as goal
 

@@ -1,8 +1,5 @@
 -- Those of the queues before q are counted; a queue has at most 256, so the number stays far below 2^64.
-use mathlib.Core.List.{List}
-use mathlib.Core.Path.{◌≡◌, sym}
-use Prim.Native.Nat.{ℕ, ◌+◌, ◌*◌, ◌-◌, ◌<◌, ◌≤◌}
-use native.Mathlib.Omega.{arith}
+use Rattle.std.proofs.Common.{List, ◌≡◌, sym, ℕ, ◌+◌, ◌*◌, ◌-◌, ◌<◌, ◌≤◌, arith}
 use Rattle.base.specs.Below.{sum}
 use Rattle.base.specs.SumLaws.{sum-zero, sum_goes, sum_done}
 use Rattle.steps.proofs.laws.Ready.{queues_ready_at}

@@ -1,6 +1,5 @@
 -- Entered, the queues are counted, and their notices.
-use mathlib.Core.Path.{◌≡◌, ap₂}
-use Prim.Native.Nat.{ℕ}
+use Rattle.std.proofs.Common.{◌≡◌, ap₂, ℕ}
 use Rattle.answers.specs.declared.Answer.TheVariants.{Done}
 use Rattle.steps.proofs.WorldCalls.{world_calls}
 use Rattle.notification_calls.specs.Calls.{notification_stats_out}

@@ -1,4 +1,4 @@
-use borrow.Author.Rules.{rules}
+use Rattle.std.proofs.Common.{rules}
 use Rattle.notification_calls.proofs.stats.used_queues.Invariants.{starts, counts, passes}
 use Rattle.notification_calls.proofs.stats.used_queues.Goals as goal
 

@@ -1,9 +1,5 @@
 -- Those before q are counted.
-use mathlib.Core.List.{List}
-use mathlib.Core.Path.{◌≡◌, sym, ap, ◌∙◌}
-use Prim.Native.Nat.{ℕ, ◌+◌, ◌-◌, ◌<◌, ◌≤◌}
-use borrow.Author.Tests.{lt-ltb, le-ltb}
-use lib.Dec.{ltb}
+use Rattle.std.proofs.Common.{List, ◌≡◌, sym, ap, ◌∙◌, ℕ, ◌+◌, ◌-◌, ◌<◌, ◌≤◌, lt-ltb, le-ltb, ltb}
 use Rattle.base.specs.Below.{sum, one}
 use Rattle.base.specs.SumLaws.{sum-zero, sum_goes, sum_stays, sum_done}
 use Rattle.world.specs.Sound.{lengths}

@@ -1,6 +1,6 @@
 use Rattle.std.proofs.Common.{◌≡◌, ℕ, suc, ◌+◌, ◌-◌, ◌<◌, ◌≤◌, ◌≢◌, List, ◌∷◌, length, set, refl, ◌∙◌, zero-add, add-one, arith, length-set, rules}
-use native.Mathlib.Nat.{sub-zero}
-use lib.Seq.{sets-eq}
+use Rattle.std.proofs.Math.Nat.{sub-zero}
+use Rattle.std.proofs.Math.Seq.{sets-eq}
 use Rattle.registry.specs.Words.{id_at, link_at, children}
 use Rattle.base.specs.Written.{written}
 use Rattle.registry.specs.Children.{child_places_from, child_places, ids_at, child_ids}

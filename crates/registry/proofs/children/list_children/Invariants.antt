@@ -1,7 +1,7 @@
 -- `registry::children::list_children` meets its contract: with the children from place k on written behind those before, the area becomes
 -- the answer.
 use Rattle.std.proofs.Common.{◌≡◌, ℕ, ◌+◌, ◌-◌, ◌≤◌, List, length}
-use lib.Seq.{sets}
+use Rattle.std.proofs.Math.Seq.{sets}
 use Rattle.base.specs.Written.{written}
 use Rattle.registry.specs.Children.{child_places_from, ids_at, child_ids}
 use Rattle.registry.proofs.children.list_children.Given as goal

@@ -1,5 +1,5 @@
 use Rattle.std.proofs.Common.{◌≡◌, ℕ, suc, ◌+◌, ◌-◌, ◌<◌, ◌≤◌, ◌≢◌, List, ◌++◌, length, get_or, take, set, sym, refl, ap, ◌∙◌, append-nil, add-one, arith, length-set, take-suc-set, rules}
-use lib.Seq.{append_snoc}
+use Rattle.std.proofs.Math.Seq.{append_snoc}
 use Rattle.registry.specs.Counts.{AtMost}
 use Rattle.registry.specs.ChildLists.{list_from, list_empty}
 use Rattle.registry.proofs.descent.append.Invariants.{Appending}

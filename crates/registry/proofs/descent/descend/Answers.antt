@@ -1,5 +1,5 @@
 use Rattle.std.proofs.Common.{◌≡◌, ℕ, zero, suc, ◌+◌, ◌-◌, ◌<◌, ◌≤◌, List, [], ◌∷◌, ◌++◌, length, get_or, take, set, refl, ap, ◌∙◌, arith, length-append, length-set, length-take-le, get_or-take, take-suc-set, rules, le-ltb, lt-ltb}
-use native.Mathlib.Nat.{sub-zero}
+use Rattle.std.proofs.Math.Nat.{sub-zero}
 use Rattle.registry.specs.Words.{link_at}
 use Rattle.registry.specs.Sound.{Linked}
 use Rattle.registry.specs.Children.{child_places}

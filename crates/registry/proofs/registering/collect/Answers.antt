@@ -1,5 +1,5 @@
 use Rattle.std.proofs.Common.{◌≡◌, ℕ, suc, ◌-◌, ◌<◌, ◌≤◌, Bool, true, false, not, List, sym, refl, ap, ◌∙◌, arith, rules}
-use borrow.Author.Tests.{not-true, not-false}
+use Rattle.std.proofs.lemmas.Bool.{not-true, not-false}
 use Rattle.registry.specs.Registering.{unregistered, unneeded, Collected, collected_below, collected}
 use Rattle.registry.proofs.registering.collect.Goals as goal
 

@@ -1,7 +1,7 @@
 -- `registry::registering::give_list` meets its contract: where the flag is set nothing is to do; where it is not, two more set it, which
 -- fits a word.
 use Rattle.std.proofs.Common.{◌≡◌, ℕ, ◌+◌, ◌*◌, ◌≢◌, List, set, sym, rules, eq-eqb, ne_eqb}
-use lib.Seq.{set-get_or}
+use Rattle.std.proofs.Math.Seq.{set-get_or}
 use Rattle.registry.specs.Words.{state_at, has_list}
 use Rattle.registry.specs.Registering.{list_given}
 use Rattle.registry.proofs.registering.give_list.Goals as goal

@@ -1,8 +1,6 @@
 -- `request::line::put` meets its contract: with the bytes from j on written behind those before, the lines become the answer.
-use mathlib.Core.Path.{◌≡◌}
-use Prim.Native.Nat.{◌+◌, ◌-◌}
-use lib.ListN.{length}
-use lib.Seq.{sets}
+use Rattle.std.proofs.Common.{◌≡◌, ◌+◌, ◌-◌, length}
+use Rattle.std.proofs.Math.Seq.{sets}
 use Rattle.base.specs.Written.{Writing}
 use Rattle.request.proofs.line.put.Given as goal
 

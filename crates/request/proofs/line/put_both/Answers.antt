@@ -1,5 +1,5 @@
 -- `request::line::put_both` meets its contract: two writings one behind the other are one of the joint bytes.
-use native.Mathlib.Omega.{arith}
+use Rattle.std.proofs.Common.{arith}
 use Rattle.request.specs.Laid.{laid_laid}
 use Rattle.request.proofs.line.put_both.Goals as goal
 

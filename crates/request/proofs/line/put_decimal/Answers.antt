@@ -1,5 +1,5 @@
 -- `request::line::put_decimal` meets its contract: the text that is put begins with the number's digits.
-use borrow.Author.Rules.{rules}
+use Rattle.std.proofs.Common.{rules}
 use Rattle.request.specs.Laid.{laid_same}
 use Rattle.request.specs.LinesLaws.{decimal_fits, spelt_decimal}
 use Rattle.request.proofs.line.put_decimal.Goals as goal

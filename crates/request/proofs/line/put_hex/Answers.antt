@@ -1,5 +1,5 @@
 -- `request::line::put_hex` meets its contract: the text that is put begins with the value's digits.
-use borrow.Author.Rules.{rules}
+use Rattle.std.proofs.Common.{rules}
 use Rattle.request.specs.Laid.{laid_same}
 use Rattle.request.specs.LinesLaws.{hex_fits, spelt_hex}
 use Rattle.request.proofs.line.put_hex.Goals as goal

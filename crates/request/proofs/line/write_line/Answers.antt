@@ -1,10 +1,5 @@
 -- `request::line::write_line` meets its contract: its four fields are written one behind the other.
-use mathlib.Core.Path.{◌≡◌, ◌∙◌}
-use mathlib.Core.List.{List, [], ◌∷◌, ◌++◌, append_assoc}
-use Prim.Native.Nat.{ℕ, ◌+◌, ◌<◌, ◌≤◌}
-use native.Mathlib.Omega.{arith}
-use borrow.Author.Rules.{rules}
-use lib.ListN.{length, length-append}
+use Rattle.std.proofs.Common.{◌≡◌, ◌∙◌, List, [], ◌∷◌, ◌++◌, append_assoc, ℕ, ◌+◌, ◌<◌, ◌≤◌, arith, rules, length, length-append}
 use Rattle.request.specs.Laid.{Laid, laid_laid}
 use Rattle.request.specs.Lines.{width, decimal, hex, line_of}
 use Rattle.request.specs.LinesLaws.{length_decimal, width_4, width_2, length_line}

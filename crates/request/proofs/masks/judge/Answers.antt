@@ -1,6 +1,5 @@
 -- `request::masks::judge` meets its contract: each test passed or failed decides one choice.
-use mathlib.Core.Path.{◌≡◌, sym, ap, ◌∙◌}
-use mathlib.Core.Bool.{Bool, not}
+use Rattle.std.proofs.Common.{◌≡◌, sym, ap, ◌∙◌, Bool, not}
 use Rattle.request.specs.Reading.{verdict_of}
 use Rattle.request.proofs.Chosen.{chosen}
 use Rattle.request.proofs.masks.judge.Goals as goal

@@ -1,12 +1,6 @@
 -- `request::masks::too_far` meets its contract: the first number that is read is too far, or else the second one decides.
-use mathlib.Core.Bool.{Bool, true, false, not}
-use mathlib.Core.Path.{◌≡◌, sym, ◌∙◌}
-use Prim.Native.Nat.{ℕ, ◌/◌, ◌%◌}
-use native.Mathlib.Nat.{div-one}
-use borrow.Author.Rules.{rules}
-use borrow.Author.Tests.{not-true, not-false}
-use lib.Dec.{eqb, ltb}
-use lib.ListN.{get_or}
+use Rattle.std.proofs.Common.{Bool, true, false, not, ◌≡◌, sym, ◌∙◌, ℕ, ◌/◌, ◌%◌, div-one, rules, eqb, ltb, get_or}
+use Rattle.std.proofs.lemmas.Bool.{not-true, not-false}
 use Rattle.base.specs.Below.{all}
 use Rattle.base.specs.Choose.{pick}
 use Rattle.request.specs.declared.Request.{Request}

@@ -1,13 +1,6 @@
-use mathlib.Core.Bool.{Bool, true, false, not}
-use mathlib.Core.Path.{◌≡◌, sym, ap, ◌∙◌}
-use Prim.Native.Nat.{ℕ, ◌+◌, ◌/◌, ◌%◌, ◌<◌, ◌≤◌}
-use native.Mathlib.Nat.{pow-suc, div-div-eq-div-mul, div-one}
-use native.Mathlib.Numerals.{add-one}
-use native.Mathlib.Omega.{arith}
-use borrow.Author.Rules.{rules}
-use borrow.Author.Tests.{not-true, not-false}
-use lib.Dec.{eqb}
-use lib.ListN.{get_or}
+use Rattle.std.proofs.Common.{Bool, true, false, not, ◌≡◌, sym, ap, ◌∙◌, ℕ, ◌+◌, ◌/◌, ◌%◌, ◌<◌, ◌≤◌, pow-suc, div-one, add-one, arith, rules, eqb, get_or}
+use Rattle.std.proofs.Math.Nat.{div-div-eq-div-mul}
+use Rattle.std.proofs.lemmas.Bool.{not-true, not-false}
 use Rattle.base.specs.AllLaws.{all_none, all_more, all_done, all_fails}
 use Rattle.base.specs.Choose.{pick}
 use Rattle.request.specs.declared.Request.{Request}

@@ -1,9 +1,5 @@
 -- `request::masks::zero_unread` meets its contract: the fields before the i-th are read or zero, and the mask's low bit is of the i-th.
-use mathlib.Core.Bool.{Bool, true}
-use mathlib.Core.Path.{◌≡◌}
-use Prim.Native.Nat.{ℕ, ◌-◌, ◌/◌, ◌^◌, ◌≤◌}
-use lib.Dec.{eqb}
-use lib.ListN.{get_or}
+use Rattle.std.proofs.Common.{Bool, true, ◌≡◌, ℕ, ◌-◌, ◌/◌, ◌^◌, ◌≤◌, eqb, get_or}
 use Rattle.base.specs.Below.{all}
 use Rattle.base.specs.Choose.{pick}
 use Rattle.request.specs.declared.Request.{Request}

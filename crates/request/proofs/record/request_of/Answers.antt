@@ -1,5 +1,5 @@
 -- `request::record::request_of` meets its contract: each field is its part of a word.
-use native.Mathlib.Omega.{arith}
+use Rattle.std.proofs.Common.{arith}
 use Rattle.request.specs.Record.{request_of}
 use Rattle.request.proofs.record.request_of.Goals as goal
 

@@ -1,11 +1,5 @@
-use mathlib.Core.Path.{◌≡◌, refl}
-use mathlib.Core.List.{List}
-use Prim.Native.Nat.{ℕ, suc, ◌+◌, ◌-◌, ◌*◌, ◌^◌, ◌<◌, ◌≤◌}
-use native.Mathlib.Nat.{pow-suc, pow-le-pow_right, add_assoc, add-zero}
-use native.Mathlib.Numerals.{add-one}
-use native.Mathlib.Omega.{arith}
-use borrow.Author.Rules.{rules}
-use lib.ListN.{get_or}
+use Rattle.std.proofs.Common.{◌≡◌, refl, List, ℕ, suc, ◌+◌, ◌-◌, ◌*◌, ◌^◌, ◌<◌, ◌≤◌, pow-suc, add_assoc, add-zero, add-one, arith, rules, get_or}
+use Rattle.std.proofs.Math.Nat.{pow-le-pow_right}
 use Rattle.request.specs.Record.{word_from, word_at}
 use Rattle.request.proofs.record.word_at.Invariants.{Reading}
 use Rattle.request.proofs.record.word_at.Goals as goal

@@ -1,7 +1,5 @@
 -- `request::record::word_at` meets its contract: with the bytes from the j-th on read behind those before, the word becomes the answer.
-use mathlib.Core.Path.{◌≡◌}
-use mathlib.Core.List.{List}
-use Prim.Native.Nat.{ℕ, ◌+◌, ◌-◌, ◌^◌, ◌<◌, ◌≤◌}
+use Rattle.std.proofs.Common.{◌≡◌, List, ℕ, ◌+◌, ◌-◌, ◌^◌, ◌<◌, ◌≤◌}
 use Rattle.request.specs.Record.{word_from, word_at}
 use Rattle.request.proofs.record.word_at.Given as goal
 

@@ -1,8 +1,5 @@
 -- `request_run::calls::answer` meets its contract: what the verdict is decides what is answered.
-use mathlib.Core.Path.{◌≡◌, sym, ap, ◌∙◌}
-use mathlib.Core.List.{List}
-use Prim.Native.Nat.{ℕ}
-use borrow.Author.Rules.{rules}
+use Rattle.std.proofs.Common.{◌≡◌, sym, ap, ◌∙◌, List, ℕ, rules}
 use Rattle.answers.specs.declared.Answer.{Answer}
 use Rattle.steps.specs.Replies.{Left, refusal}
 use Rattle.steps.specs.declared.Reply.{Reply}

@@ -1,5 +1,5 @@
 -- `request_run::calls::drain` meets its contract: the reply and the memory of a drain, without its area.
-use mathlib.Core.Path.{ap}
+use Rattle.std.proofs.Common.{ap}
 use Rattle.steps.specs.Replies.{Left, WithArea}
 use Rattle.request_run.specs.Run.{drained}
 use Rattle.request_run.proofs.calls.drain.Goals as goal

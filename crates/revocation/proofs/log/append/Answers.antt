@@ -1,10 +1,5 @@
-use mathlib.Core.Path.{refl, ◌∙◌}
-use mathlib.Core.List.{List, append_assoc}
-use Prim.Native.Nat.{ℕ, ◌+◌, ◌≤◌}
-use native.Mathlib.Omega.{arith}
-use borrow.Author.Rules.{rules}
-use lib.ListN.{length, take, drop}
-use lib.Seq.{sets-eq}
+use Rattle.std.proofs.Common.{refl, ◌∙◌, List, append_assoc, ℕ, ◌+◌, ◌≤◌, arith, rules, length, take, drop}
+use Rattle.std.proofs.Math.Seq.{sets-eq}
 use Rattle.base.specs.Written.{Writing, write_goes, write_ends}
 use Rattle.revocation.specs.Log.{appended}
 use Rattle.revocation.proofs.log.append.Goals as goal

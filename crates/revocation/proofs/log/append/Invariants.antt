@@ -1,7 +1,5 @@
 -- `revocation::log::append` meets its contract: with the pairs from j on written behind those before, the log becomes the answer.
-use mathlib.Core.Path.{◌≡◌}
-use Prim.Native.Nat.{◌+◌, ◌-◌}
-use lib.ListN.{length}
+use Rattle.std.proofs.Common.{◌≡◌, ◌+◌, ◌-◌, length}
 use Rattle.base.specs.Written.{Writing}
 use Rattle.revocation.specs.Log.{appended}
 use Rattle.revocation.proofs.log.append.Given as goal

@@ -1,10 +1,6 @@
 -- `revocation::log::has_indexed` meets its contract: the log has what the index knows at a place, and nothing that it knows nowhere.
-use mathlib.Core.Path.{◌≡◌, sym, ap, ◌∙◌}
-use mathlib.Core.Bool.{true, false, not, true≢false}
-use mathlib.Core.List.{List}
-use Prim.Native.Nat.{ℕ, ◌<◌}
-use borrow.Author.Tests.{eq-eqb, not-true}
-use lib.ListN.{length, get_or}
+use Rattle.std.proofs.Common.{◌≡◌, sym, ap, ◌∙◌, true, false, not, true≢false, List, ℕ, ◌<◌, eq-eqb, length, get_or}
+use Rattle.std.proofs.lemmas.Bool.{not-true}
 use Rattle.base.specs.Below.{all}
 use Rattle.base.specs.AllLaws.{all_at}
 use Rattle.base.specs.Place.{holds, place_of, place_holds, is_nowhere, nowhere_test}

@@ -1,5 +1,4 @@
-use borrow.Author.Rules.{rules}
-use borrow.Author.Tests.{eq-eqb, ne_eqb}
+use Rattle.std.proofs.Common.{rules, eq-eqb, ne_eqb}
 use Rattle.base.specs.FirstLaws.{some_up}
 use Rattle.revocation.specs.Log.{log_has}
 use Rattle.revocation.proofs.log.has_pair.Goals as goal

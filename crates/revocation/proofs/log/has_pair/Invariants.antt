@@ -1,7 +1,5 @@
 -- `revocation::log::has_pair` meets its contract: no pair before k is this one, so the first from k on is the first.
-use mathlib.Core.Path.{◌≡◌}
-use Prim.Native.Nat.{◌-◌, ◌≤◌}
-use lib.Dec.{eqb}
+use Rattle.std.proofs.Common.{◌≡◌, ◌-◌, ◌≤◌, eqb}
 use Rattle.base.specs.Below.{first, first_from}
 use Rattle.revocation.specs.Words.{pair_at}
 use Rattle.revocation.proofs.log.has_pair.Given as goal

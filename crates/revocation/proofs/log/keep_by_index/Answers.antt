@@ -1,9 +1,4 @@
-use mathlib.Core.Path.{◌≡◌, sym, ap, ◌∙◌}
-use mathlib.Core.Bool.{Bool, true, false, not}
-use mathlib.Core.List.{List}
-use Prim.Native.Nat.{ℕ, ◌+◌, ◌<◌, ◌≤◌}
-use borrow.Author.Rules.{rules}
-use lib.ListN.{length, get_or, set, take}
+use Rattle.std.proofs.Common.{◌≡◌, sym, ap, ◌∙◌, Bool, true, false, not, List, ℕ, ◌+◌, ◌<◌, ◌≤◌, rules, length, get_or, set, take}
 use Rattle.base.specs.Sifted.{Sifting, sift_starts, sift_few, sift_ends, sift_room, sift_passes, sift_keeps}
 use Rattle.revocation.specs.Log.{log_has, absent_of}
 use Rattle.revocation.proofs.log.keep_by_index.Invariants.{absent}

@@ -1,8 +1,5 @@
 -- `revocation::log::keep_by_index` meets its contract: the pairs that the log has not are sifted from the others.
-use mathlib.Core.Bool.{Bool, not}
-use mathlib.Core.List.{List}
-use Prim.Native.Nat.{ℕ, ◌-◌}
-use lib.ListN.{length}
+use Rattle.std.proofs.Common.{Bool, not, List, ℕ, ◌-◌, length}
 use Rattle.base.specs.Sifted.{Sifting}
 use Rattle.revocation.specs.Log.{log_has}
 use Rattle.revocation.proofs.log.keep_by_index.Given as goal

@@ -1,5 +1,5 @@
 -- `revocation::log::keep_indexing` meets its contract: words that differ are indexed.
-use mathlib.Core.Path.{◌∙◌}
+use Rattle.std.proofs.Common.{◌∙◌}
 use Rattle.base.specs.Distinct.{differ_exactly}
 use Rattle.revocation.proofs.log.keep_indexing.Goals as goal
 

@@ -1,10 +1,5 @@
-use mathlib.Core.Path.{◌≡◌}
-use mathlib.Core.Bool.{Bool}
-use mathlib.Core.List.{List}
-use Prim.Native.Nat.{ℕ, ◌+◌, ◌-◌, ◌*◌}
-use native.Mathlib.Nat.{add-sub_cancel_left}
-use borrow.Author.Rules.{rules}
-use lib.ListN.{take, drop}
+use Rattle.std.proofs.Common.{◌≡◌, Bool, List, ℕ, ◌+◌, ◌-◌, ◌*◌, rules, take, drop}
+use Rattle.std.proofs.Math.Nat.{add-sub_cancel_left}
 use Rattle.base.specs.AllLaws.{all_tests}
 use Rattle.revocation.specs.Words.{queue_at}
 use Rattle.revocation.specs.Sound.{queue_test}

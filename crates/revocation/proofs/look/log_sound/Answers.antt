@@ -1,6 +1,5 @@
 -- `revocation::look::log_sound` meets its contract: what is lent to `distinct` is the first n pairs.
-use mathlib.Core.Path.{◌∙◌}
-use native.Mathlib.Omega.{arith}
+use Rattle.std.proofs.Common.{◌∙◌, arith}
 use Rattle.base.specs.Choose.{both_goes, both_stops}
 use Rattle.base.specs.Distinct.{differ_take}
 use Rattle.revocation.specs.Sound.{log_test}

@@ -1,4 +1,4 @@
-use borrow.Author.Rules.{rules}
+use Rattle.std.proofs.Common.{rules}
 use Rattle.base.specs.AllLaws.{all_tests}
 use Rattle.revocation.proofs.look.pairs_coded.Goals as goal
 

@@ -1,8 +1,5 @@
 -- `revocation::look::pairs_coded` meets its contract: the words before k are pairs.
-use mathlib.Core.Path.{◌≡◌}
-use mathlib.Core.Bool.{true}
-use Prim.Native.Nat.{◌-◌, ◌^◌, ◌≤◌}
-use lib.Dec.{ltb}
+use Rattle.std.proofs.Common.{◌≡◌, true, ◌-◌, ◌^◌, ◌≤◌, ltb}
 use Rattle.base.specs.Below.{all}
 use Rattle.revocation.specs.Words.{pair_at}
 use Rattle.revocation.proofs.look.pairs_coded.Given as goal

@@ -1,12 +1,4 @@
-use mathlib.Core.Path.{◌≡◌, sym}
-use mathlib.Core.Bool.{true}
-use mathlib.Core.List.{List}
-use Prim.Native.Nat.{ℕ}
-use native.Mathlib.Omega.{arith}
-use borrow.Author.Rules.{rules}
-use borrow.Author.Tests.{le-ltb}
-use lib.Dec.{ltb}
-use lib.ListN.{get_or}
+use Rattle.std.proofs.Common.{◌≡◌, sym, true, List, ℕ, arith, rules, le-ltb, ltb, get_or}
 use Rattle.base.specs.Below.{all}
 use Rattle.base.specs.AllLaws.{all_make, all_tests}
 use Rattle.base.specs.Choose.{both_false}

@@ -1,5 +1,6 @@
 -- `revocation::look::queue_sound` meets its contract: its tests are those of `queue_test`, in their order.
-use borrow.Author.Tests.{eq-eqb, ne_eqb, lt-ltb, le-ltb, le-leb, lt-leb}
+use Rattle.std.proofs.Common.{eq-eqb, ne_eqb, lt-ltb, le-ltb, le-leb}
+use Rattle.std.proofs.lemmas.Bool.{lt-leb}
 use Rattle.revocation.specs.Sound.{queue_test}
 use Rattle.revocation.proofs.look.queue_sound.Goals as goal
 

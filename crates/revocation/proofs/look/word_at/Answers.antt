@@ -1,6 +1,5 @@
 -- `revocation::look::word_at` meets its contract: the queue at place q starts at q * 771.
-use Prim.Native.Nat.{◌<◌}
-use native.Mathlib.Omega.{arith}
+use Rattle.std.proofs.Common.{◌<◌, arith}
 use Rattle.base.specs.Part.{get_d_part}
 use Rattle.revocation.proofs.look.word_at.Goals as goal
 

@@ -1,10 +1,6 @@
 -- `revocation::queues::copy_notice` meets its contract: its three words are written one after the other.
-use mathlib.Core.Path.{◌≡◌}
-use mathlib.Core.List.{List}
-use Prim.Native.Nat.{ℕ, suc, ◌+◌, ◌*◌}
-use native.Mathlib.Omega.{arith}
-use lib.ListN.{set}
-use lib.Seq.{sets}
+use Rattle.std.proofs.Common.{◌≡◌, List, ℕ, suc, ◌+◌, ◌*◌, arith, set}
+use Rattle.std.proofs.Math.Seq.{sets}
 use Rattle.revocation.specs.Words.{notice_id_at, notice_time_at, reason_at}
 use Rattle.revocation.specs.Queue.{notices_from}
 use Rattle.revocation.proofs.queues.copy_notice.Goals as goal

@@ -1,10 +1,7 @@
 -- `revocation::queues::copy_notices` meets its contract: with the notices from the i-th on written behind those before, the area becomes
 -- the answer.
-use mathlib.Core.Path.{◌≡◌}
-use mathlib.Core.List.{List}
-use Prim.Native.Nat.{ℕ, ◌-◌, ◌*◌, ◌≤◌}
-use lib.ListN.{length}
-use lib.Seq.{sets}
+use Rattle.std.proofs.Common.{◌≡◌, List, ℕ, ◌-◌, ◌*◌, ◌≤◌, length}
+use Rattle.std.proofs.Math.Seq.{sets}
 use Rattle.base.specs.Written.{written}
 use Rattle.revocation.specs.Words.{length_of}
 use Rattle.revocation.specs.Queue.{notices_from, notices}

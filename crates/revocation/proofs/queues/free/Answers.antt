@@ -1,5 +1,5 @@
 -- `revocation::queues::free` meets its contract: one word is written.
-use borrow.Author.Rules.{rules}
+use Rattle.std.proofs.Common.{rules}
 use Rattle.revocation.specs.Queue.{freed}
 use Rattle.revocation.proofs.queues.free.Goals as goal
 

@@ -1,9 +1,5 @@
 -- `revocation::queues::push` meets its contract: behind the others where there is room, over the oldest where there is none.
-use mathlib.Core.Path.{◌≡◌}
-use mathlib.Core.List.{List}
-use Prim.Native.Nat.{ℕ, ◌+◌, ◌%◌, ◌<◌, ◌≤◌}
-use borrow.Author.Tests.{lt-ltb, le-ltb}
-use lib.ListN.{set}
+use Rattle.std.proofs.Common.{◌≡◌, List, ℕ, ◌+◌, ◌%◌, ◌<◌, ◌≤◌, lt-ltb, le-ltb, set}
 use Rattle.revocation.specs.Words.{first_of, length_of, ring_at}
 use Rattle.revocation.specs.Queue.{notice_set, pushed}
 use Rattle.revocation.proofs.queues.push.Goals as goal

@@ -1,6 +1,5 @@
 -- The log is lent to `revocation::log::append`, then the count of logged pairs is set.
-use Prim.Native.Nat.{◌+◌}
-use lib.ListN.{length}
+use Rattle.std.proofs.Common.{◌+◌, length}
 use Rattle.revocation.specs.Log.{appended}
 use Rattle.world.specs.Numbers.{logged_of}
 use Rattle.revocation_steps.specs.Revocation.{log_step}

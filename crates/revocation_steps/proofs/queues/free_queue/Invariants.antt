@@ -1,8 +1,5 @@
 -- No place before q passes, so the first from q on is the first.
-use mathlib.Core.Path.{◌≡◌}
-use Prim.Native.Nat.{◌-◌, ◌≤◌}
-use lib.Dec.{eqb}
-use lib.ListN.{length}
+use Rattle.std.proofs.Common.{◌≡◌, ◌-◌, ◌≤◌, eqb, length}
 use Rattle.base.specs.Below.{first_from}
 use Rattle.world.specs.Sound.{lengths}
 use Rattle.revocation_steps.specs.Revocation.{free_queue}

@@ -1,4 +1,4 @@
-use borrow.Author.Rules.{rules}
+use Rattle.std.proofs.Common.{rules}
 use Rattle.revocation_steps.proofs.AlongQueues.{along_laws}
 use Rattle.revocation_steps.proofs.queues.free_queues.Invariants.{starts, done, counts, passes}
 use Rattle.revocation_steps.proofs.queues.free_queues.Goals as goal

@@ -1,10 +1,5 @@
 -- Those before q are counted.
-use mathlib.Core.Bool.{Bool, true, false}
-use mathlib.Core.List.{List}
-use mathlib.Core.Path.{◌≡◌, sym, ap}
-use Prim.Native.Nat.{ℕ, ◌+◌, ◌-◌, ◌≤◌}
-use lib.Dec.{eqb}
-use lib.ListN.{length, get_or}
+use Rattle.std.proofs.Common.{Bool, true, false, List, ◌≡◌, sym, ap, ℕ, ◌+◌, ◌-◌, ◌≤◌, eqb, length, get_or}
 use Rattle.base.specs.Below.{sum, one}
 use Rattle.base.specs.SumLaws.{sum-zero, sum_goes, sum_stays, sum_done}
 use Rattle.world.specs.Sound.{lengths}

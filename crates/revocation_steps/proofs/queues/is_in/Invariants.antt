@@ -1,11 +1,5 @@
 -- None of those from j up to i is the pid, so it is among all of them where it is among those from i on.
-use mathlib.Core.Bool.{true, false}
-use mathlib.Core.List.{List}
-use mathlib.Core.Logic.{◌≢◌}
-use mathlib.Core.Path.{◌≡◌, refl, sym}
-use Prim.Native.Nat.{ℕ, ◌+◌, ◌-◌, ◌<◌, ◌≤◌}
-use borrow.Author.Tests.{eq-eqb, ne_eqb}
-use lib.ListN.{length, get_or, drop, drop_of_length-le}
+use Rattle.std.proofs.Common.{true, false, List, ◌≢◌, ◌≡◌, refl, sym, ℕ, ◌+◌, ◌-◌, ◌<◌, ◌≤◌, eq-eqb, ne_eqb, length, get_or, drop, drop_of_length-le}
 use Rattle.base.specs.Rest.{drop_next}
 use Rattle.revocation_steps.specs.Revocation.{is_in}
 use Rattle.revocation_steps.proofs.queues.is_in.Given as goal

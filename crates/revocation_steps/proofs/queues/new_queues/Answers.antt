@@ -1,4 +1,4 @@
-use borrow.Author.Rules.{rules}
+use Rattle.std.proofs.Common.{rules}
 use Rattle.revocation_steps.proofs.queues.new_queues.Invariants.{starts, ends, counts, passes}
 use Rattle.revocation_steps.proofs.queues.new_queues.Goals as goal
 use Rattle.revocation_steps.proofs.queues.new_queues.Goals.{else-is_new, then-is_new}

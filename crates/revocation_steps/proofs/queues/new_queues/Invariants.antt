@@ -1,12 +1,5 @@
 -- Those before j are counted; with those from j on they are the answer.
-use mathlib.Core.Bool.{Bool, true, false, not}
-use mathlib.Core.List.{List}
-use mathlib.Core.Path.{◌≡◌, sym, ◌∙◌}
-use Prim.Native.Nat.{ℕ, ◌+◌, ◌-◌, ◌<◌, ◌≤◌}
-use native.Mathlib.Nat.{zero-add}
-use native.Mathlib.Omega.{arith}
-use lib.Dec.{ltb}
-use lib.ListN.{length, get_or, drop, drop_of_length-le}
+use Rattle.std.proofs.Common.{Bool, true, false, not, List, ◌≡◌, sym, ◌∙◌, ℕ, ◌+◌, ◌-◌, ◌<◌, ◌≤◌, zero-add, arith, ltb, length, get_or, drop, drop_of_length-le}
 use Rattle.base.specs.Below.{one}
 use Rattle.base.specs.Choose.{both}
 use Rattle.base.specs.Rest.{drop_next}

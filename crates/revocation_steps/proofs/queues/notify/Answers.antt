@@ -1,5 +1,5 @@
 -- The queue that is found, or else the free place, is lent.
-use mathlib.Core.Path.{◌∙◌}
+use Rattle.std.proofs.Common.{◌∙◌}
 use Rattle.revocation.specs.Queue.{pushed, begun}
 use Rattle.steps.proofs.Lending.{lent_queue, queue_long, queue_back}
 use Rattle.revocation_steps.proofs.Notifying.{queue_used, notify_pushes, notify_begins, notify_stays}

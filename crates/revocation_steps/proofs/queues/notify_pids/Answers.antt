@@ -1,4 +1,4 @@
-use borrow.Author.Rules.{rules}
+use Rattle.std.proofs.Common.{rules}
 use Rattle.revocation_steps.proofs.Notifying.{ready_notified}
 use Rattle.revocation_steps.proofs.queues.notify_pids.Invariants.{starts, still_ready, ends, goes}
 use Rattle.revocation_steps.proofs.queues.notify_pids.Goals as goal

@@ -1,9 +1,5 @@
 -- The pids before j have their notice; with those from j on the memory becomes the answer.
-use mathlib.Core.List.{List}
-use mathlib.Core.Path.{◌≡◌, refl}
-use Prim.Native.Nat.{ℕ, ◌+◌, ◌-◌, ◌<◌, ◌≤◌}
-use native.Mathlib.Omega.{arith}
-use lib.ListN.{length, get_or, drop, drop_of_length-le}
+use Rattle.std.proofs.Common.{List, ◌≡◌, refl, ℕ, ◌+◌, ◌-◌, ◌<◌, ◌≤◌, arith, length, get_or, drop, drop_of_length-le}
 use Rattle.base.specs.Rest.{drop_next}
 use Rattle.revocation.specs.Reason.{number_of}
 use Rattle.revocation.specs.declared.RevocationReason.TheVariants.{ParentRevoked}

@@ -1,4 +1,4 @@
-use borrow.Author.Rules.{rules}
+use Rattle.std.proofs.Common.{rules}
 use Rattle.base.specs.FirstLaws.{first_up}
 use Rattle.revocation_steps.proofs.AlongQueues.{queue_here, along_laws}
 use Rattle.revocation_steps.proofs.queues.queue_for.Goals as goal

@@ -1,8 +1,5 @@
 -- No place before q passes, so the first from q on is the first.
-use mathlib.Core.Path.{◌≡◌}
-use Prim.Native.Nat.{◌-◌, ◌≤◌}
-use lib.Dec.{eqb, ltb}
-use lib.ListN.{length}
+use Rattle.std.proofs.Common.{◌≡◌, ◌-◌, ◌≤◌, eqb, ltb, length}
 use Rattle.base.specs.Below.{first_from}
 use Rattle.base.specs.Choose.{both}
 use Rattle.world.specs.Sound.{pids, lengths}
@@ -13,7 +10,8 @@ use Rattle.revocation_steps.proofs.queues.queue_for.Given as goal
 abbrev pub invariant-loop-q : goal.invariant-loop-q
 invariant-loop-q l =
     (l.at ≤ length l.mem) × (l.q ≤ l.d.queues) × Along l.d l.q l.at
-    × (queue_for l.d l.mem l.pid ≡ first_from (λ q. both (ltb 0 (lengths l.d l.mem q)) (eqb (pids l.d l.mem q) l.pid)) (l.d.queues - l.q) l.q)
+    × (queue_for l.d l.mem l.pid ≡ first_from (λ q. both (ltb 0 (lengths l.d l.mem q)) (eqb (pids l.d l.mem q) l.pid)) (l.d.queues - l.q)
+    l.q)
 
 abbrev pub decreases-loop-q : goal.decreases-loop-q
 decreases-loop-q l = l.d.queues - l.q

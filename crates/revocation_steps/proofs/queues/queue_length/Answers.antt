@@ -1,5 +1,5 @@
 -- The length is read where the queue stands.
-use native.Mathlib.Omega.{arith}
+use Rattle.std.proofs.Common.{arith}
 use Rattle.revocation_steps.proofs.AlongQueues.{length_here}
 use Rattle.revocation_steps.proofs.queues.queue_length.Goals as goal
 

@@ -1,5 +1,5 @@
 use Rattle.std.proofs.Common.{◌≡◌, ℕ, suc, ◌+◌, ◌-◌, ◌<◌, ◌≤◌, List, length, take, set, ap, append_assoc, append-nil, add-one, arith, take-suc-set, rules}
-use native.Mathlib.Nat.{sub-zero}
+use Rattle.std.proofs.Math.Nat.{sub-zero}
 use Rattle.table.specs.Slots.{slot_at, id_of}
 use Rattle.table.specs.Insert.{live_entries}
 use Rattle.table.specs.declared.CapabilityEntry.{CapabilityEntry}

@@ -1,6 +1,6 @@
 -- `space::sound::is_sound` meets its contract: its three tests are those of `space_test`.
 use Rattle.std.proofs.Common.{◌≡◌, ℕ, ◌-◌, ◌^◌, ◌<◌, ◌≤◌, Bool, false, List, length, take, drop, arith, le-ltb, lt-ltb, le-leb}
-use borrow.Author.Tests.{lt-leb}
+use Rattle.std.proofs.lemmas.Bool.{lt-leb}
 use Rattle.table.specs.Sound.{sound_test}
 use Rattle.table.specs.declared.CapTable.{CapTable}
 use Rattle.space.specs.Words.{quota_of, generation_of, table_of}

@@ -1,5 +1,5 @@
 -- Entered, the other space number is looked at, then the entries are copied.
-use mathlib.Core.Path.{ap}
+use Rattle.std.proofs.Common.{ap}
 use Rattle.answers.specs.declared.Answer.TheVariants.{Done}
 use Rattle.steps.proofs.Entering.{enters}
 use Rattle.base.specs.Cases.{chooses}

@@ -1,5 +1,5 @@
 -- Entered, the space is cleared and its generation goes up.
-use mathlib.Core.Path.{ap, ◌∙◌}
+use Rattle.std.proofs.Common.{ap, ◌∙◌}
 use Rattle.steps.proofs.Entering.{space_call, space_sound, enters}
 use Rattle.steps.proofs.laws.Kept.{kept_ready}
 use Rattle.steps.proofs.laws.SpaceSteps.{clear_step_kept}

@@ -1,5 +1,5 @@
 -- Entered, an id is taken.
-use mathlib.Core.Path.{refl, sym, ap, ◌∙◌}
+use Rattle.std.proofs.Common.{refl, sym, ap, ◌∙◌}
 use Rattle.steps.proofs.Entering.{world_refusal, world_call, world_ready}
 use Rattle.steps.proofs.Leaving.{left_is}
 use Rattle.space_calls.specs.Calls.{taken_reply, alloc_out}

@@ -1,7 +1,5 @@
 -- Entered, an id is taken, and a token of it inserted.
-use mathlib.Core.List.{List}
-use mathlib.Core.Path.{◌≡◌, sym, ap₂, ◌∙◌}
-use Prim.Native.Nat.{ℕ}
+use Rattle.std.proofs.Common.{List, ◌≡◌, sym, ap₂, ◌∙◌, ℕ}
 use Rattle.steps.proofs.Entering.{space_ready, enters}
 use Rattle.steps.proofs.laws.ReadyKept.{ready_take}
 use Rattle.steps.specs.Replies.{Left}

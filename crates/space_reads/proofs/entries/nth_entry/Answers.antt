@@ -1,5 +1,5 @@
 -- Entered, the n-th entry is answered.
-use mathlib.Core.Path.{ap, ◌∙◌}
+use Rattle.std.proofs.Common.{ap, ◌∙◌}
 use Rattle.steps.proofs.Entering.{enters}
 use Rattle.space_reads.specs.Calls.{nth_entry_out}
 use Rattle.space_reads.specs.Replies.{nth_reply}

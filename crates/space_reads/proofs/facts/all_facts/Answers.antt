@@ -1,5 +1,5 @@
 -- Entered, the space says it.
-use mathlib.Core.Path.{ap}
+use Rattle.std.proofs.Common.{ap}
 use Rattle.answers.specs.declared.Answer.TheVariants.{Done}
 use Rattle.steps.proofs.Entering.{enters}
 use Rattle.steps.specs.declared.Facts.{Facts}

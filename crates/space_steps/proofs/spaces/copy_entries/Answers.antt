@@ -1,6 +1,6 @@
 -- The source is lent to `space::gather` and `space::generation`, then the target to `space::replace`.
-use Prim.Native.Nat.{ℕ}
-use lib.ListN.{length-replicate}
+use Rattle.std.proofs.Common.{ℕ}
+use Rattle.std.proofs.Math.ListN.{length-replicate}
 use Rattle.space.specs.Copy.{copied_space}
 use Rattle.steps.specs.Steps.{space_of}
 use Rattle.space_steps.proofs.Copying.{replace_asks, copied_target, copied_moves}
@@ -35,5 +35,6 @@ pub returns-clause-value : goal.returns-clause-value
 returns-clause-value c =
     let wide = c.width-w.ensures in
     let source = lent_space _ _ _ _ _ c.space_at-from.ensures wide in
-    let target = lent_space _ _ _ _ _ c.space_at-to.ensures wide in copied_moves _ _ _ _ c.requires.0 c.requires.1 c.requires.2 _ _ _ _ _ source target (length-replicate {A = ℕ} 2048 0)
+    let target = lent_space _ _ _ _ _ c.space_at-to.ensures wide in
+    copied_moves _ _ _ _ c.requires.0 c.requires.1 c.requires.2 _ _ _ _ _ source target (length-replicate {A = ℕ} 2048 0)
     c.gather-count.ensures _ c.replace.ensures.value

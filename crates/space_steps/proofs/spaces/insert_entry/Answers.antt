@@ -1,5 +1,5 @@
 -- The space is lent to `space::insert`.
-use mathlib.Core.Path.{ap, ◌∙◌}
+use Rattle.std.proofs.Common.{ap, ◌∙◌}
 use Rattle.space.specs.Change.{InsertOut, insert_out}
 use Rattle.steps.proofs.Lending.{lent_space, lends}
 use Rattle.space_steps.proofs.spaces.insert_entry.Goals as goal

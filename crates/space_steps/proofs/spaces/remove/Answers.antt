@@ -1,5 +1,5 @@
 -- An entry that was found has left, and is no longer held.
-use mathlib.Core.Path.{ap}
+use Rattle.std.proofs.Common.{ap}
 use Rattle.space.specs.declared.LookedUp.{LookedUp}
 use Rattle.steps.specs.Steps.{is_entry}
 use Rattle.steps.proofs.ChangingEntries.{removed_as_found, remove_absent}
@@ -7,9 +7,11 @@ use Rattle.space_steps.proofs.spaces.remove.Goals as goal
 
 pub returns-in-Entry-clause-mem_after : goal.returns-in-Entry-clause-mem_after
 returns-in-Entry-clause-mem_after c =
-    let left = c.remove_entry-r.ensures in removed_as_found _ _ _ _ _ _ left.mem_after (ap (λ (l : LookedUp). l.got) left.value) (ap is_entry c.in-Entry.is) _
+    let left = c.remove_entry-r.ensures in
+    removed_as_found _ _ _ _ _ _ left.mem_after (ap (λ (l : LookedUp). l.got) left.value) (ap is_entry c.in-Entry.is) _
     c.id.ensures _ c.release.ensures
 
 pub returns-in-Nothing-clause-mem_after : goal.returns-in-Nothing-clause-mem_after
 returns-in-Nothing-clause-mem_after c =
-    let left = c.remove_entry-r.ensures in remove_absent _ _ _ _ _ _ left.mem_after (ap (λ (l : LookedUp). l.got) left.value) (ap is_entry c.in-Nothing.is)
+    let left = c.remove_entry-r.ensures in
+    remove_absent _ _ _ _ _ _ left.mem_after (ap (λ (l : LookedUp). l.got) left.value) (ap is_entry c.in-Nothing.is)

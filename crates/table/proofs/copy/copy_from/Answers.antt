@@ -1,4 +1,4 @@
-use native.Mathlib.Omega.{arith}
+use Rattle.std.proofs.Common.{arith}
 use Rattle.table.proofs.CodeCopy.{bounded_asks, bounded_goes, copy_goes, copy_laws}
 use Rattle.table.proofs.copy.copy_from.Goals as goal
 

@@ -1,5 +1,5 @@
 -- `table::insert::crowded` meets its contract: its test is the definition's.
-use borrow.Author.Rules.{rules}
+use Rattle.std.proofs.Common.{rules}
 use Rattle.table.specs.Insert.{crowded}
 use Rattle.table.proofs.insert.crowded.Goals as goal
 

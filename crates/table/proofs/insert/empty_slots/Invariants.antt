@@ -1,8 +1,6 @@
 -- `table::insert::empty_slots` meets its contract. The invariant: the first i slots are emptied. The measure is the slots that are
 -- left.
-use mathlib.Core.Path.{◌≡◌}
-use Prim.Native.Nat.{◌-◌, ◌≤◌}
-use lib.ListN.{length}
+use Rattle.std.proofs.Common.{◌≡◌, ◌-◌, ◌≤◌, length}
 use Rattle.table.specs.Insert.{emptied}
 use Rattle.table.proofs.insert.empty_slots.Given as goal
 

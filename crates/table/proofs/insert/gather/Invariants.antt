@@ -1,7 +1,6 @@
 -- `table::insert::gather` meets its contract. The invariant: gathering from slot i on, into what the scratch holds by now, gives the
 -- whole. The measure is the slots that are left.
-use mathlib.Core.Path.{◌≡◌}
-use Prim.Native.Nat.{◌-◌, ◌≤◌}
+use Rattle.std.proofs.Common.{◌≡◌, ◌-◌, ◌≤◌}
 use Rattle.table.specs.Insert.{gathered}
 use Rattle.table.proofs.insert.gather.Given as goal
 

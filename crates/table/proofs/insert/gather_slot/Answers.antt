@@ -1,9 +1,5 @@
 -- `table::insert::gather_slot` meets its contract: gathering one slot goes by what it is.
-use mathlib.Core.Path.{◌≡◌}
-use mathlib.Core.List.{List}
-use Prim.Native.Nat.{ℕ, ◌+◌}
-use native.Mathlib.Nat.{add-zero}
-use borrow.Author.Rules.{rules}
+use Rattle.std.proofs.Common.{◌≡◌, List, ℕ, ◌+◌, add-zero, rules}
 use Rattle.table.specs.Slots.{slot_at, put_entry}
 use Rattle.table.specs.Insert.{holds, gathered}
 use Rattle.table.specs.declared.CapabilityEntry.{CapabilityEntry}

@@ -1,7 +1,5 @@
 -- `table::insert::place` meets its contract: the first slot that is not live, and a mark there used up.
-use mathlib.Core.Path.{◌≡◌}
-use mathlib.Core.List.{List}
-use Prim.Native.Nat.{ℕ, ◌+◌, ◌-◌}
+use Rattle.std.proofs.Common.{◌≡◌, List, ℕ, ◌+◌, ◌-◌}
 use Rattle.base.specs.Below.{one}
 use Rattle.table.specs.Slots.{id_of, is_removed, put_entry}
 use Rattle.table.specs.Walk.{free_for}

@@ -1,8 +1,6 @@
 -- `table::insert::place_all` meets its contract. The invariant: placing the entries from i on into the words as they are by now gives
 -- the whole. The measure is the entries that are left.
-use mathlib.Core.Path.{◌≡◌}
-use Prim.Native.Nat.{◌-◌, ◌≤◌}
-use lib.ListN.{length}
+use Rattle.std.proofs.Common.{◌≡◌, ◌-◌, ◌≤◌, length}
 use Rattle.table.specs.Insert.{scratch_entries, place_all}
 use Rattle.table.proofs.insert.place_all.Given as goal
 

@@ -1,11 +1,6 @@
 -- `table::insert::rebuild` meets its contract: a table of 0 slots has no entry to keep; else the scratch, zero at the start, lists the
 -- live entries after gathering, and those are placed in the emptied slots.
-use mathlib.Core.Path.{◌≡◌, ◌∙◌}
-use mathlib.Core.List.{List}
-use Prim.Native.Nat.{ℕ, ◌*◌, ◌≤◌}
-use native.Mathlib.Omega.{arith}
-use borrow.Author.Rules.{rules}
-use lib.ListN.{length}
+use Rattle.std.proofs.Common.{◌≡◌, ◌∙◌, List, ℕ, ◌*◌, ◌≤◌, arith, rules, length}
 use Rattle.table.specs.Insert.{live_entries, scratch_entries, gathered, emptied, place_all, rebuilt}
 use Rattle.table.proofs.laws.Scratch.{gathered_live, gathered_count}
 use Rattle.table.proofs.insert.rebuild.Goals as goal

@@ -1,5 +1,5 @@
 -- `table::insert::room_for` meets its contract, by the definition of `room_for`.
-use borrow.Author.Rules.{rules}
+use Rattle.std.proofs.Common.{rules}
 use Rattle.table.specs.Insert.{room_for}
 use Rattle.table.proofs.insert.room_for.Goals as goal
 

@@ -1,5 +1,5 @@
 -- `table::insert::slots_for` meets its contract: the larger of 8 and the power.
-use native.Mathlib.Omega.{arith}
+use Rattle.std.proofs.Common.{arith}
 use Rattle.table.proofs.laws.Room.{slots_few}
 use Rattle.table.proofs.insert.slots_for.Goals as goal
 

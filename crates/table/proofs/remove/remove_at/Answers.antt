@@ -1,9 +1,5 @@
 -- `table::remove::remove_at` meets its contract: it goes by what the slot is, and the test of the live count is `removed_at`'s.
-use mathlib.Core.Path.{◌≡◌}
-use mathlib.Core.List.{List}
-use Prim.Native.Nat.{ℕ, ◌+◌, ◌-◌, ◌<◌, ◌≤◌}
-use borrow.Author.Rules.{rules}
-use borrow.Author.Tests.{lt-ltb, le-ltb}
+use Rattle.std.proofs.Common.{◌≡◌, List, ℕ, ◌+◌, ◌-◌, ◌<◌, ◌≤◌, rules, lt-ltb, le-ltb}
 use Rattle.table.specs.Slots.{slot_at, put_mark}
 use Rattle.table.specs.Insert.{none, removed_at, held_at}
 use Rattle.table.specs.declared.CapabilityEntry.{CapabilityEntry}

@@ -1,4 +1,4 @@
-use borrow.Author.Rules.{rules}
+use Rattle.std.proofs.Common.{rules}
 use Rattle.table.proofs.CodeWalk.{find_laws}
 use Rattle.table.proofs.walk.find_from.Goals as goal
 

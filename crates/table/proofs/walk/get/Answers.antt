@@ -1,8 +1,5 @@
 -- `table::walk::get` meets its contract: where the search found an id, the slot is below the slot count and its entry the answer.
-use mathlib.Core.Path.{◌≡◌, ap, sym, ◌∙◌}
-use mathlib.Core.List.{List}
-use Prim.Native.Nat.{ℕ, ◌<◌}
-use native.Mathlib.Omega.{arith}
+use Rattle.std.proofs.Common.{◌≡◌, ap, sym, ◌∙◌, List, ℕ, ◌<◌, arith}
 use Rattle.table.specs.Slots.{entry_at}
 use Rattle.table.specs.Walk.{search as searched, got}
 use Rattle.table.specs.declared.CapabilityEntry.{CapabilityEntry}

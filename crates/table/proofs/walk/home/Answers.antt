@@ -1,13 +1,7 @@
 -- `table::walk::home` meets its contract: where `slots & (slots - 1)` is 0 the slot count is a power of two, and the mask is the
 -- remainder.
-use mathlib.Core.Path.{◌≡◌, refl, ap, sym, ◌∙◌}
-use mathlib.Core.Bool.{Bool, true}
-use Prim.Native.Nat.{ℕ, ◌+◌, ◌-◌, ◌/◌, ◌%◌, ◌^◌, ◌<◌, ◌≤◌}
-use native.Mathlib.Nat.{mod-lt}
-use native.Mathlib.Omega.{arith}
-use borrow.Author.Tests.{eqb-true}
-use lib.Bits.{bit_and, and_mask}
-use lib.Dec.{eqb}
+use Rattle.std.proofs.Common.{◌≡◌, refl, ap, sym, ◌∙◌, Bool, true, ℕ, ◌+◌, ◌-◌, ◌/◌, ◌%◌, ◌^◌, ◌<◌, ◌≤◌, mod-lt, arith, eqb-true, bit_and, eqb}
+use lib.Bits.{and_mask}
 use Rattle.base.specs.Choose.{pick}
 use Rattle.base.specs.Below.{all, first}
 use Rattle.base.specs.AllLaws.{all_at}

@@ -1,5 +1,5 @@
 -- `table::words::entry_at` meets its contract: each field is read from the word that `entry_at` names.
-use borrow.Author.Rules.{rules}
+use Rattle.std.proofs.Common.{rules}
 use Rattle.table.specs.Slots.{entry_at}
 use Rattle.table.proofs.words.entry_at.Goals as goal
 

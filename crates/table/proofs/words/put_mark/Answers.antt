@@ -1,5 +1,5 @@
 -- `table::words::put_mark` meets its contract: the one store is `put_mark`'s.
-use borrow.Author.Rules.{rules}
+use Rattle.std.proofs.Common.{rules}
 use Rattle.table.specs.Slots.{put_mark}
 use Rattle.table.proofs.words.put_mark.Goals as goal
 

@@ -1,8 +1,5 @@
 -- `table::words::slot_at` meets its contract: the tests of the kind are those of `slot_at`, in its order.
-use mathlib.Core.Path.{◌≡◌}
-use mathlib.Core.List.{List}
-use Prim.Native.Nat.{ℕ}
-use borrow.Author.Tests.{ne_eqb}
+use Rattle.std.proofs.Common.{◌≡◌, List, ℕ, ne_eqb}
 use Rattle.table.specs.Slots.{slot_at, kind_at, entry_at}
 use Rattle.table.specs.declared.CapabilityEntry.{CapabilityEntry}
 use Rattle.table.specs.declared.Slot.TheVariants.{Empty, Tombstone, Full}

@@ -1,7 +1,5 @@
 -- `call::listed` meets its contract: the count never passes the array's length.
-use mathlib.Core.Path.{◌≡◌}
-use Prim.Native.Nat.{◌≤◌, ◌-◌}
-use lib.ListN.{length}
+use Rattle.std.proofs.Common.{◌≡◌, ◌≤◌, ◌-◌, length}
 use Rattle.token_replay.proofs.call.listed.Given as goal
 
 abbrev pub invariant-loop-n : goal.invariant-loop-n

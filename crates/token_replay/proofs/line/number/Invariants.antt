@@ -1,6 +1,5 @@
 -- `line::number` meets its contract: before each turn the digits passed spell the value.
-use mathlib.Core.Path.{◌≡◌}
-use Prim.Native.Nat.{◌-◌, ◌≤◌}
+use Rattle.std.proofs.Common.{◌≡◌, ◌-◌, ◌≤◌}
 use Rattle.token_replay.specs.Line.{spelt}
 use Rattle.token_replay.proofs.line.number.Given as goal
 

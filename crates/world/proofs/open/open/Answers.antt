@@ -1,7 +1,5 @@
 -- The record is tested first, then the length.
-use mathlib.Core.Bool.{true}
-use mathlib.Core.Path.{◌≡◌, sym, ◌∙◌}
-use native.Mathlib.Omega.{arith}
+use Rattle.std.proofs.Common.{true, ◌≡◌, sym, ◌∙◌, arith}
 use Rattle.world.specs.Open.{record_test, good}
 use Rattle.world.proofs.OpenTold.{opening_21, opening_26, opening_0}
 use Rattle.world.proofs.open.open.Goals as goal

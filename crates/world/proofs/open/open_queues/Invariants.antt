@@ -1,7 +1,5 @@
 -- The first q queues are free.
-use mathlib.Core.Path.{◌≡◌}
-use Prim.Native.Nat.{◌-◌, ◌≤◌}
-use lib.ListN.{length}
+use Rattle.std.proofs.Common.{◌≡◌, ◌-◌, ◌≤◌, length}
 use Rattle.world.specs.Open.{open_queues}
 use Rattle.world.proofs.open.open_queues.Given as goal
 

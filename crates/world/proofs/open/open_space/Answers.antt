@@ -1,6 +1,5 @@
 -- The space's words are lent from `start` to `end`.
-use native.Mathlib.Omega.{arith}
-use lib.ListN.{length-take, length-drop}
+use Rattle.std.proofs.Common.{arith, length-take, length-drop}
 use Rattle.base.specs.Written.{written}
 use Rattle.world.specs.Open.{open_space}
 use Rattle.world.specs.Regions.{space, width_of}

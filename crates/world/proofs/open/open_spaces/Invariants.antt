@@ -1,7 +1,5 @@
 -- The first s spaces are open.
-use mathlib.Core.Path.{◌≡◌}
-use Prim.Native.Nat.{◌-◌, ◌≤◌}
-use lib.ListN.{length}
+use Rattle.std.proofs.Common.{◌≡◌, ◌-◌, ◌≤◌, length}
 use Rattle.world.specs.Open.{open_spaces}
 use Rattle.world.proofs.open.open_spaces.Given as goal
 

@@ -1,4 +1,4 @@
-use borrow.Author.Rules.{rules}
+use Rattle.std.proofs.Common.{rules}
 use Rattle.base.specs.Written.{write_laws}
 use Rattle.world.proofs.open.put_words.Goals as goal
 

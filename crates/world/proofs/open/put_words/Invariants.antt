@@ -1,6 +1,5 @@
 -- With the words from i on written behind those before, the slice becomes the answer.
-use Prim.Native.Nat.{◌-◌}
-use lib.ListN.{length}
+use Rattle.std.proofs.Common.{◌-◌, length}
 use Rattle.base.specs.Written.{written, Writing}
 use Rattle.world.proofs.open.put_words.Given as goal
 

@@ -1,5 +1,5 @@
-use borrow.Author.Rules.{rules}
-use borrow.Author.Tests.{le-leb, lt-leb}
+use Rattle.std.proofs.Common.{rules, le-leb}
+use Rattle.std.proofs.lemmas.Bool.{lt-leb}
 use Rattle.base.specs.AllLaws.{all_more, all_loop}
 use Rattle.world.proofs.open.quotas_fit.Goals as goal
 

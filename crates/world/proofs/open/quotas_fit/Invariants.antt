@@ -1,9 +1,5 @@
 -- The first s quotas are at most M.
-use mathlib.Core.Bool.{true}
-use mathlib.Core.Path.{◌≡◌}
-use Prim.Native.Nat.{◌-◌, ◌≤◌}
-use lib.Dec.{leb}
-use lib.ListN.{length, get_or}
+use Rattle.std.proofs.Common.{true, ◌≡◌, ◌-◌, ◌≤◌, leb, length, get_or}
 use Rattle.base.specs.Below.{all}
 use Rattle.world.proofs.open.quotas_fit.Given as goal
 

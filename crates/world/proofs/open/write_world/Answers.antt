@@ -1,5 +1,5 @@
 -- The three steps are those of the definition.
-use native.Mathlib.Omega.{arith}
+use Rattle.std.proofs.Common.{arith}
 use Rattle.world.specs.Regions.{length_for}
 use Rattle.world.proofs.Opening.{all_written}
 use Rattle.world.proofs.open.write_world.Goals as goal

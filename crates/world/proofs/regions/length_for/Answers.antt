@@ -1,6 +1,5 @@
 -- The memory ends where the queues do.
-use native.Mathlib.Omega.{arith}
-use borrow.Author.Rules.{rules}
+use Rattle.std.proofs.Common.{arith, rules}
 use Rattle.world.specs.Layout.{length-le}
 use Rattle.world.specs.Regions.{start_of, length_for}
 use Rattle.world.proofs.regions.length_for.Goals as goal

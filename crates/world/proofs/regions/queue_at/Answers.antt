@@ -1,6 +1,5 @@
 -- The queues start where the log ends. Both lie below the length, which fits a word.
-use native.Mathlib.Omega.{arith}
-use borrow.Author.Rules.{rules}
+use Rattle.std.proofs.Common.{arith, rules}
 use Rattle.world.specs.Layout.{length-le}
 use Rattle.world.specs.Regions.{start_of, length_for}
 use Rattle.world.proofs.regions.queue_at.Goals as goal

@@ -1,5 +1,5 @@
 -- The slots of the largest table are the table's own count.
-use native.Mathlib.Omega.{arith}
+use Rattle.std.proofs.Common.{arith}
 use Rattle.world.specs.Regions.{width_of}
 use Rattle.world.proofs.regions.width.Goals as goal
 

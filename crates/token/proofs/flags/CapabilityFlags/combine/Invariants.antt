@@ -1,10 +1,6 @@
 -- `CapabilityFlags::combine` meets its contract. The loop's invariant: the flags so far and the numbers that are left give
 -- the answer. The measure is how many are left.
-use Prim.Native.Nat.{ℕ, ◌-◌, ◌≤◌}
-use mathlib.Core.List.{List}
-use mathlib.Core.Path.{◌≡◌}
-use lib.Bits.{bit_or}
-use lib.ListN.{length, drop}
+use Rattle.std.proofs.Common.{ℕ, ◌-◌, ◌≤◌, List, ◌≡◌, bit_or, length, drop}
 use Rattle.base.specs.Choose.{pick}
 use Rattle.answers.specs.declared.Answer.TheVariants.{BadField}
 use Rattle.token.specs.declared.flags.Combined.{Combined}

@@ -1,13 +1,5 @@
 -- `CapabilityFlags::has` meets its contract: a mask of one bit leaves 0 exactly where that bit is not 1.
-use Prim.Native.Nat.{ℕ, ◌*◌, ◌^◌}
-use mathlib.Core.Bool.{not}
-use mathlib.Core.Path.{◌≡◌, ap}
-use native.Mathlib.Nat.{zero-mul}
-use native.Mathlib.Omega.{arith}
-use borrow.Author.Tests.{eq-eqb, ne_eqb}
-use lib.Bits.{bit_and}
-use lib.Dec.{eqb}
-use lib.Pow.{pow_pos}
+use Rattle.std.proofs.Common.{ℕ, ◌*◌, ◌^◌, not, ◌≡◌, ap, zero-mul, arith, eq-eqb, ne_eqb, bit_and, eqb, pow_pos}
 use Rattle.token.specs.Bits.{bit}
 use Rattle.token.specs.BitsLaws.{of_bit, and_one}
 use Rattle.token.specs.Flags.{bit_of}

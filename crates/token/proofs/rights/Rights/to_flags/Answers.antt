@@ -1,13 +1,9 @@
 -- `Rights::to_flags` meets its contract: after the test of right k the flags are the low k + 1 bits of the rights.
-use Prim.Native.Nat.{ℕ, ◌+◌, ◌%◌, ◌^◌}
-use mathlib.Core.Bool.{Bool, true, false}
-use mathlib.Core.Path.{◌≡◌, sym, ◌∙◌}
-use native.Mathlib.Nat.{mod-lt, mod-one, zero-mul, one-mul, zero-add}
-use native.Mathlib.Omega.{arith}
-use borrow.Author.Tests.{eqb-true, eqb-false}
-use lib.Bits.{bit_or, or_shifted_r}
-use lib.Dec.{eqb}
-use lib.Pow.{pow_pos, mod-pow-add}
+use Rattle.std.proofs.Common.{ℕ, ◌+◌, ◌%◌, ◌^◌, Bool, true, false, ◌≡◌, sym, ◌∙◌, mod-lt, zero-mul, one-mul, zero-add, arith, eqb-true, bit_or, eqb, pow_pos}
+use Rattle.std.proofs.Math.Nat.{mod-one}
+use Rattle.std.proofs.Math.Pow.{mod-pow-add}
+use borrow.Author.Tests.{eqb-false}
+use lib.Bits.{or_shifted_r}
 use Rattle.token.specs.Bits.{bit}
 use Rattle.token.specs.Rights.{holds}
 use Rattle.token.specs.RightsLaws.{contains_one_right}
