@@ -1,5 +1,6 @@
 -- Each step of the registry keeps a sound memory: the registry as its own laws say, and its number of registered or recycled ids with it.
--- `.._step_changes` says what stands after a step, `.._step_kept` that it keeps. And an id that leaves the registry is free, so it can be recycled.
+-- `.._step_changes` says what stands after a step, `.._step_kept` that it keeps. And an id that leaves the registry is free, so it can be
+-- recycled.
 use Rattle.std.proofs.Common.{ℕ, ◌+◌, ◌-◌, ◌*◌, ◌%◌, ◌^◌, ◌<◌, ◌≤◌, List, length, get_or, sym, ◌∙◌, arith}
 use Rattle.registry.proofs.CollectionLaws.{collected_left, length_collected, collected_keeps}
 use Rattle.registry.specs.Ids.{recycled_with}
