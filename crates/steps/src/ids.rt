@@ -8,6 +8,7 @@ use world::Numbers;
 use world::head::{NEXT, RECYCLED};
 use world::regions::registry_at;
 
+#[tactic(auto, using(crate::proofs::laws::Taking::take_laws))]
 pub fn take_id(mem: &mut [u64], d: Numbers) -> Taken
     requires { Ready d mem.old }
     ensures mem_after { mem.new ≡ take_step d mem.old }

@@ -27,6 +27,18 @@ module _ (d : Numbers) (mem : List ℕ) where
     unfolding take_step taken_id
     takes_none over = rw (le-ltb 0 (recycled_of mem) none, le-ltb (next_of mem) (2 ^ 48) over) (refl, refl)
 
+-- The id alone of the ways of the next one, and what proves an id taken by the test of the next.
+module _ (d : Numbers) (mem : List ℕ) (none : recycled_of mem ≤ 0) where
+  pub takes_next_id : next_of mem < 2 ^ 48 → taken_id d mem ≡ Id (next_of mem)
+  unfolding taken_id
+  takes_next_id left = rw (le-ltb 0 (recycled_of mem) none, lt-ltb (next_of mem) (2 ^ 48) left) refl
+
+  pub takes_none_id : 2 ^ 48 ≤ next_of mem → taken_id d mem ≡ Exhausted
+  unfolding taken_id
+  takes_none_id over = rw (le-ltb 0 (recycled_of mem) none, le-ltb (next_of mem) (2 ^ 48) over) refl
+
+pub ruleset take_laws = (takes_next, takes_none, takes_next_id, takes_none_id)
+
 -- What holds of each holds of taking.
 pub take_by_cases :
     (d : Numbers) (mem : List ℕ) (P : Taken → List ℕ → Type 0)

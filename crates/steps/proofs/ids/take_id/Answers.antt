@@ -22,15 +22,3 @@ returns-then-recycled-gt0-clause-value c =
     let places = c.args.d.places in (takes_recycled _ _ _ _ c.if-recycled-gt0.true
     (registry_back _ _ _ at (first_taken places (recycled_of mem)) _ c.take_first-id.ensures.rg_after)
     (c.take_first-id.ensures.value ∙ ap (λ rg. recycled_at places rg 0) (lent_registry _ _ _ at))).1
-
-pub returns-then-next-lt281474976710656-clause-mem_after : goal.returns-then-next-lt281474976710656-clause-mem_after
-returns-then-next-lt281474976710656-clause-mem_after c = (takes_next _ _ c.if-recycled-gt0.false c.if-next-lt281474976710656.true).0
-
-pub returns-then-next-lt281474976710656-clause-value : goal.returns-then-next-lt281474976710656-clause-value
-returns-then-next-lt281474976710656-clause-value c = (takes_next _ _ c.if-recycled-gt0.false c.if-next-lt281474976710656.true).1
-
-pub returns-clause-mem_after : goal.returns-clause-mem_after
-returns-clause-mem_after c = (takes_none _ _ c.if-recycled-gt0.false c.if-next-lt281474976710656.false).0
-
-pub returns-clause-value : goal.returns-clause-value
-returns-clause-value c = (takes_none _ _ c.if-recycled-gt0.false c.if-next-lt281474976710656.false).1
