@@ -44,6 +44,7 @@ fn has_id(words: &[u64], i: usize, kind: u64, id: u64) -> bool
 }
 
 // The search over n slots from slot `from` on.
+#[tactic(auto, using(crate::proofs::CodeWalk::find_laws))]
 fn find_from(words: &[u64], slots: usize, id: u64, from: usize, n: usize) -> Search
     requires { (slots ≤ 512) × (4 * slots ≤ length words.now) × (from < slots) × (n ≤ slots) }
     ensures { (result ≡ search_from words.now slots id from n) × (result.visits ≤ n) }
