@@ -91,6 +91,7 @@ fn insert_entry(mem: &mut [u64], d: Numbers, s: usize, entry: CapabilityEntry) -
 }
 
 // A new entry. If it is accepted its holder is counted, and the value answered.
+#[tactic(auto, using(steps::proofs::ChangingEntries::insert_accepted, steps::proofs::ChangingEntries::insert_refused, steps::proofs::ChangingEntries::refused_reply))]
 pub fn insert(
     mem: &mut [u64],
     d: Numbers,
