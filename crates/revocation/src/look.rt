@@ -67,6 +67,7 @@ fn reasons_listed(qu: &[u64], n: usize) -> bool
 }
 
 // The rules of one place of a queue.
+#[tactic(auto, unfolding(crate::specs::Sound::queue_test))]
 pub fn queue_sound(qu: &[u64]) -> bool
     requires { 771 ≤ length qu.now }
     ensures { result ≡ queue_test qu.now }
