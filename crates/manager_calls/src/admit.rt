@@ -36,6 +36,7 @@ fn take_back(mem: &mut [u64], d: Numbers, id: u64) -> Reply
 }
 
 // The entry of the id registered last goes into space s, and is counted in word i of the head.
+#[tactic(auto, using(crate::proofs::Admitting::admits))]
 pub fn admit(
     mem: &mut [u64],
     d: Numbers,

@@ -1,14 +1,8 @@
 -- The insert keeps the memory ready with its counts; its answer decides.
-use Rattle.std.proofs.Common.{rules}
+use Rattle.std.proofs.Common.{arith, rules}
 use Rattle.steps.proofs.laws.ReadyKept.{insert_stays}
 use Rattle.manager_calls.proofs.Admitting.{room_stays, admits, takes_back}
 use Rattle.manager_calls.proofs.admit.admit.Goals as goal
-
-pub returns-then-number-eq0 : goal.returns-then-number-eq0
-returns-then-number-eq0 c =
-    let put = c.insert-r.ensures in
-    admits _ _ _ _ _ _ _ _ _ put.mem_after _ put.value _ c.number.ensures _ c.add.ensures
-    c.if-number-eq0.true
 
 pub take_back-requires : goal.take_back-requires
 take_back-requires c = search (rules, insert_stays, room_stays, admits, takes_back)
@@ -16,5 +10,4 @@ take_back-requires c = search (rules, insert_stays, room_stays, admits, takes_ba
 pub returns : goal.returns
 returns c =
     let put = c.insert-r.ensures in
-    takes_back _ _ _ _ _ _ _ _ _ put.mem_after _ put.value _ c.number.ensures _
-    c.take_back.ensures c.if-number-eq0.false
+    takes_back _ _ _ _ _ _ _ _ _ put.mem_after _ put.value _ c.number.ensures _ c.take_back.ensures (λ zero. omega arith)
