@@ -1,6 +1,6 @@
 -- The cascade stands at the front of `order`, its ids at the front of `ids`, and of these the pairs that the log has not at the front of
 -- `pairs`: so what `revoke_listed` answers and leaves by these lists is what a revocation does.
-use Rattle.std.proofs.Common.{rules, eq-eqb, ne_eqb, List, ◌≢◌, ◌≡◌, refl, sym, ap, ◌∙◌, ℕ, ◌%◌, ◌<◌, arith, length, take, length-take-le}
+use Rattle.std.proofs.Common.{rules, eq-eqb, ne_eqb, List, ◌≢◌, ◌≡◌, sym, ap, ◌∙◌, ℕ, ◌%◌, ◌<◌, arith, length, take, length-take-le}
 use Rattle.base.specs.Choose.{when_yes, when_no}
 use Rattle.base.specs.Written.{written, take_written}
 use Rattle.registry.specs.Children.{ids_at}
@@ -8,7 +8,6 @@ use Rattle.registry.specs.ChildrenLaws.{ids_at-length}
 use Rattle.revocation_steps.specs.Revocation.{cascade, cascade_ids}
 use Rattle.revocation_steps.proofs.laws.Cascade.{cascade_first}
 use Rattle.steps.specs.Replies.{done}
-use Rattle.steps.proofs.Leaving.{left_is}
 use Rattle.steps.proofs.laws.Ready.{ready_at}
 use Rattle.world.specs.Numbers.{registered_of}
 use Rattle.world.specs.Regions.{registry, view}
@@ -57,9 +56,6 @@ state_at-requires c =
     let (sound, inside) = c.requires in
     (ready_at _ _ sound, omega (arith, sound.registered_fit))
 
-pub returns-then-state_at-eq1 : goal.returns-then-state_at-eq1
-returns-then-state_at-eq1 c = left_is c.done.ensures refl (already _ _ _ _ c.state_at.ensures _ _ c.if-state_at-eq1.true)
-
 pub keep_absent-absent-requires-clause-ready : goal.keep_absent-absent-requires-clause-ready
 keep_absent-absent-requires-clause-ready c =
     let (sound, inside) = c.requires in (ready_at _ _ sound, sound.logged_fit, search rules)
@@ -70,7 +66,7 @@ revoke_listed-requires c =
     let (places, few) = c.cascade_places-count.ensures.order_after in
     let below = c.cascade_places-count.ensures.all_below in
     let not_None = some _ _ _ _ c.state_at.ensures _ _ places
-    (order_counted (goal.at.revoke_listed-requires c).After-cascade_places-count) sound inside c.if-state_at-eq1.false in (
+    (order_counted (goal.at.revoke_listed-requires c).After-cascade_places-count) sound inside (λ gone. omega arith) in (
       sound,
       below,
       rw (ids_counted (goal.at.revoke_listed-requires c).After-ids_at) not_None,
@@ -90,4 +86,4 @@ returns c =
     let below = c.cascade_places-count.ensures.all_below in
     let ids = listed_ids _ _ _ _ state _ _ places (order_counted (goal.at.returns c).After-cascade_places-count) _ _ c.ids_at.ensures in
     let pairs = rw ids at c.keep_absent-absent.ensures.pairs_after in
-    rw (places, ids, pairs) at c.revoke_listed.ensures ∙ sym (when_no _ _ _ (ne_eqb _ 1 (rw state at c.if-state_at-eq1.false)))
+    rw (places, ids, pairs) at c.revoke_listed.ensures ∙ sym (when_no _ _ _ (ne_eqb _ 1 (λ gone. omega (arith, state))))
