@@ -54,8 +54,8 @@ fn copy_entry(words: &mut [u64], s: Inserted, entry: CapabilityEntry) -> Inserte
 // A table of the scratch's first `count` entries, over whatever the words held.
 pub fn copy_from(words: &mut [u64], scratch: &[u64; 2048], count: usize) -> Inserted
     requires { (count ≤ 256) × (4 * slots_for count ≤ length words.old) }
-    ensures { leaves words.exit.now result
-        ≡ insert_all (scratch_entries scratch.now 0 count) (record { words = words.entry.now; counts = none; moved = 0 }) }
+    ensures { leaves words.new result
+        ≡ insert_all (scratch_entries scratch.now 0 count) (record { words = words.old; counts = none; moved = 0 }) }
 {
     let table = CapTable {
         slots: 0,

@@ -2,7 +2,7 @@
 ghost use Rattle.std.specs.Prelude.{◌≡◌, ◌+◌, ◌-◌, ◌*◌, ◌≤◌, ◌<◌, length};
 ghost use Rattle.base.specs.Below.{one};
 ghost use Rattle.table.specs.Slots.{id_of, is_removed};
-ghost use Rattle.table.specs.Insert.{crowded as isCrowded, slots_for, room_for, emptied, holds, gathered, scratch_entries, live_entries, place_all, rebuilt, enlarged, placed, insert_new, leaves, Insertable, Placeable};
+ghost use Rattle.table.specs.Insert.{crowded, slots_for, room_for, emptied, holds, gathered, scratch_entries, live_entries, place_all, rebuilt, enlarged, placed, insert_new, leaves, Insertable, Placeable};
 
 use super::walk::free_for;
 use super::words::{REMOVED, entry_at, kind_at, put_entry, slot_at};
@@ -18,7 +18,7 @@ pub fn id_of(entry: CapabilityEntry) -> u64
 // True where one entry more would leave more than 3/4 of the slots in use, removed ones counted: every walk is to meet an empty slot.
 pub fn crowded(t: CapTable) -> bool
     requires { (t.slots ≤ 512) × (t.full ≤ 512) × (t.tombstones ≤ 512) }
-    ensures { result ≡ isCrowded t }
+    ensures { result ≡ crowded t }
 {
     3 * t.slots < 4 * (t.full + t.tombstones + 1)
 }

@@ -8,7 +8,7 @@ use super::{CapTable, Got, Removed, Slot};
 // The entry of slot i leaves, if there is one; a table that held no other gives its slots back.
 pub fn remove_at(words: &mut [u64], t: CapTable, i: usize) -> Removed
     requires { (i < 512) × (4 * i + 3 < length words.old) × (t.tombstones ≤ 512) }
-    ensures moved_value { record { words = words.exit.now; counts = result.table; moved = 0 } ≡ removed_at words.entry.now t i }
+    ensures moved_value { record { words = words.new; counts = result.table; moved = 0 } ≡ removed_at words.old t i }
     ensures left_value { result.left ≡ held_at words.old i }
 {
     let Slot::Full(entry) = slot_at(words, i) else {

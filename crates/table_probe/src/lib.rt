@@ -180,9 +180,9 @@ pub extern "C" fn table_probe_copy_from(
     count: usize,
 )
     requires { (count ≤ 256) × (4 * slots_for count ≤ length words.old) }
-    ensures { left words.exit.now numbers.new
+    ensures { left words.new numbers.new
         ≡ leaves numbers.old
-        (insert_all (scratch_entries scratch.now 0 count) (record { words = words.entry.now; counts = none; moved = 0 })) }
+        (insert_all (scratch_entries scratch.now 0 count) (record { words = words.old; counts = none; moved = 0 })) }
 {
     let s = copy_from(words, scratch, count);
     let table = s.table;

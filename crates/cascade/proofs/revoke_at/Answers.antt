@@ -1,13 +1,12 @@
 -- The cascade stands at the front of `order`, its ids at the front of `ids`, and of these the pairs that the log has not at the front of
 -- `pairs`: so what `revoke_listed` answers and leaves by these lists is what a revocation does.
-use Rattle.std.proofs.Common.{rules, eq-eqb, ne_eqb, List, ◌≢◌, ◌≡◌, sym, ap, ◌∙◌, ℕ, ◌%◌, ◌<◌, arith, length, take, length-take-le}
-use Rattle.base.specs.Choose.{when_yes, when_no}
+use Rattle.std.proofs.Common.{rules, ne_eqb, List, ◌≢◌, ◌≡◌, sym, ap, ◌∙◌, ℕ, ◌%◌, ◌<◌, arith, length, take, length-take-le}
+use Rattle.base.specs.Choose.{when_no}
 use Rattle.base.specs.Written.{written, take_written}
 use Rattle.registry.specs.Children.{ids_at}
 use Rattle.registry.specs.ChildrenLaws.{ids_at-length}
 use Rattle.revocation_steps.specs.Revocation.{cascade, cascade_ids}
 use Rattle.revocation_steps.proofs.laws.Cascade.{cascade_first}
-use Rattle.steps.specs.Replies.{done}
 use Rattle.steps.proofs.laws.Ready.{ready_at}
 use Rattle.world.specs.Numbers.{registered_of}
 use Rattle.world.specs.Regions.{registry, view}
@@ -19,10 +18,6 @@ use Rattle.cascade.proofs.revoke_at.Goals.{After-cascade_places-count, After-ids
 
 -- Place r is in this state.
 module _ (d : Numbers) (mem : List ℕ) (r state : ℕ) (is : state ≡ states d mem r) where
-  already : (time : ℕ) (listed : List ℕ) → state % 2 ≡ 1 → revoking d r time listed mem ≡ record { reply = done 0; memory = mem }
-  unfolding revoking
-  already time listed gone = when_yes _ _ _ (eq-eqb _ 1 (rw is at gone))
-
   module _ (count : ℕ) (order : List ℕ) (places : take count order ≡ cascade d mem r) (counted : length (take count order) ≡ count) where
     listed_ids :
         (ids₀ ids : List ℕ) → ids ≡ written (ids_at (view d registry mem) (take count order)) ids₀ → take count ids ≡ cascade_ids d mem r
