@@ -1,5 +1,6 @@
 -- Document 01, "Request stream program": what each record's call answers and leaves, and the lines of a whole run.
-use Rattle.std.specs.Prelude.{not, ◌≡◌, ℕ, zero, suc, ◌+◌, ◌-◌, ◌*◌, ◌/◌, ◌≤◌, eqb, ltb, length, get_or, List, [], ◌∷◌, ◌++◌, replicate}
+use Rattle.std.specs.Prelude.{not, ◌≡◌, ℕ, zero, suc, ◌+◌, ◌-◌, ◌*◌, ◌/◌, ◌≤◌, eqb, ltb, length, get_or, List, [], ◌∷◌, ◌++◌}
+use mathlib.Core.List.{replicate}
 use Rattle.answers.specs.Number as answers
 use Rattle.answers.specs.declared.Answer.{Answer}
 use Rattle.answers.specs.declared.Answer.TheVariants.{BadField}

@@ -1,6 +1,7 @@
 -- Given room, a run is not refused: the program's numbers are good, and the memory and the area that it lends are long enough.
-use Rattle.std.proofs.Common.{◌≡◌, refl, ap, ◌∙◌, Bool, true, false, not, List, replicate, ℕ, ◌+◌, ◌*◌, ◌/◌, ◌≤◌, arith, ltb-false, le-ltb, eqb, ltb, length}
+use Rattle.std.proofs.Common.{◌≡◌, refl, ap, ◌∙◌, Bool, true, false, not, List, ℕ, ◌+◌, ◌*◌, ◌/◌, ◌≤◌, arith, ltb-false, le-ltb, eqb, ltb, length}
 use Rattle.std.proofs.Math.ListN.{length-replicate}
+use mathlib.Core.List.{replicate}
 use Rattle.answers.specs.Number.{number_of}
 use Rattle.base.specs.Below.{all}
 use Rattle.base.specs.Choose.{pick, when_no}

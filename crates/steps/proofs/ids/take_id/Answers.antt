@@ -4,7 +4,7 @@ use Rattle.registry.specs.Ids.{first_taken}
 use Rattle.registry.specs.Words.{recycled_at}
 use Rattle.world.specs.Numbers.{recycled_of}
 use Rattle.steps.proofs.Lending.{lent_registry, registry_back}
-use Rattle.steps.proofs.laws.Taking.{takes_recycled, takes_next, takes_none}
+use Rattle.steps.proofs.laws.Taking.{takes_recycled}
 use Rattle.steps.proofs.ids.take_id.Goals as goal
 
 pub returns-then-recycled-gt0-clause-mem_after : goal.returns-then-recycled-gt0-clause-mem_after
