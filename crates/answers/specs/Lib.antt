@@ -1,2 +1,3 @@
 -- What the contracts of `answers` cite.
+pub mod Answer
 pub mod Number

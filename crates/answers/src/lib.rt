@@ -1,60 +1,38 @@
-// The answers that a call can give: the source's refusals and those that the port adds.
-// Document 01, "Answer numbers", has the table; specs/Number.antt says it again, case for case.
+//! Why a call refuses: the source's refusals and those that the port adds, each with its number.
+//! specs/Answer.antt has the whole table of answers, with 0 for a call that is done.
 #![tactic(auto)]
 
-ghost use Rattle.std.specs.Prelude.{◌≡◌};
-ghost use Rattle.answers.specs.Number.{number_of};
-
-#[derive(Clone, Copy)]
-pub enum Answer {
-    Done,
-    InvalidCapability,
-    InsufficientRights,
-    CapabilityRevoked,
-    OutOfMemory,
-    InvalidObject,
-    PermissionDenied,
-    AlreadyExists,
-    NotFound,
-    IdExhausted,
-    QuotaExceeded,
-    SpaceQuota,
-    SpaceIds,
-    BadSpace,
-    BadField,
-    RegistryFull,
-    RecycleFull,
-    LogFull,
-    PidTableFull,
-    BadWorld,
+/// Why a call refuses. The discriminant is the number that hosts see; 0 is the answer of a call that is done.
+#[derive(Clone, Copy, PartialEq, Eq, Debug)]
+pub enum Refusal {
+    InvalidCapability = 1,
+    InsufficientRights = 2,
+    CapabilityRevoked = 3,
+    OutOfMemory = 4,
+    InvalidObject = 5,
+    PermissionDenied = 6,
+    AlreadyExists = 7,
+    NotFound = 8,
+    IdExhausted = 9,
+    QuotaExceeded = 10,
+    SpaceQuota = 11,
+    SpaceIds = 12,
+    BadSpace = 20,
+    BadField = 21,
+    RegistryFull = 22,
+    RecycleFull = 23,
+    LogFull = 24,
+    PidTableFull = 25,
+    BadWorld = 26,
 }
 
-impl Answer {
-    // The answer's number, as hosts see it.
-    pub fn number(self) -> u8
-        ensures { result ≡ number_of self }
-    {
-        match self {
-            Answer::Done => 0,
-            Answer::InvalidCapability => 1,
-            Answer::InsufficientRights => 2,
-            Answer::CapabilityRevoked => 3,
-            Answer::OutOfMemory => 4,
-            Answer::InvalidObject => 5,
-            Answer::PermissionDenied => 6,
-            Answer::AlreadyExists => 7,
-            Answer::NotFound => 8,
-            Answer::IdExhausted => 9,
-            Answer::QuotaExceeded => 10,
-            Answer::SpaceQuota => 11,
-            Answer::SpaceIds => 12,
-            Answer::BadSpace => 20,
-            Answer::BadField => 21,
-            Answer::RegistryFull => 22,
-            Answer::RecycleFull => 23,
-            Answer::LogFull => 24,
-            Answer::PidTableFull => 25,
-            Answer::BadWorld => 26,
-        }
+/// The refusal's number, as hosts see it.
+impl From<Refusal> for u8 {
+    ghost use Rattle.answers.specs.Number.{HasNumber};
+
+    ghost from_gives = { HasNumber };
+
+    fn from(refusal: Refusal) -> u8 {
+        refusal as u8
     }
 }
