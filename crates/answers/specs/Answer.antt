@@ -1,4 +1,5 @@
 -- What a call answers: that it is done, or why it refuses. Each refusal has the name of its answer.
+use Rattle.std.specs.Prelude.{Result, Ok, Err}
 use Rattle.answers.specs.declared.Refusal.{Refusal}
 use Rattle.answers.specs.declared.Refusal.TheVariants as refusal
 
@@ -62,3 +63,8 @@ PidTableFull = Refuses refusal.PidTableFull
 
 abbrev pub BadWorld : Answer
 BadWorld = Refuses refusal.BadWorld
+
+-- What an outcome of the code tells.
+abbrev pub answer_of : {A : Type 0} → Result A Refusal → Answer
+answer_of (Ok value) = Done
+answer_of (Err refusal) = Refuses refusal
