@@ -1,7 +1,7 @@
 -- Document 01, "Registry and delegation": delegate, step by step, and last the call, what it answers and leaves on every memory and every
 -- argument. d are the numbers of a sound memory. The value is the token, the count the entries that the insert moved: 0 where a child is
 -- returned or the call refused.
-use Rattle.std.specs.Prelude.{Bool, true, false, not, List, ℕ, zero, suc, ◌+◌, eqb, ltb}
+use Rattle.std.specs.Prelude.{Bool, true, false, not, List, ℕ, zero, suc, ◌+◌, eqb, ltb, Option, None, Some}
 use Rattle.answers.specs.declared.Answer.TheVariants.{InvalidCapability, CapabilityRevoked, PermissionDenied, IdExhausted, QuotaExceeded, BadSpace, RegistryFull}
 use Rattle.base.specs.Choose.{pick, both, when}
 use Rattle.manager_calls.specs.Admit.{admitted}
@@ -14,8 +14,7 @@ use Rattle.steps.specs.Steps.{space_of, lookup_step, taken_id, take_step, place_
 use Rattle.steps.specs.declared.Reply.{Reply}
 use Rattle.steps.specs.declared.Taken.{Taken}
 use Rattle.steps.specs.declared.Taken.TheVariants.{Id, Exhausted}
-use Rattle.table.specs.declared.Got.{Got}
-use Rattle.table.specs.declared.Got.TheVariants.{Entry, Nothing}
+use Rattle.table.specs.declared.CapabilityEntry.{CapabilityEntry}
 use Rattle.token.specs.Rights.{GRANT, holds, common}
 use Rattle.token.specs.Token.{id_of, type_of}
 use Rattle.world.specs.Numbers.{registered_of, delegated_word}
@@ -25,9 +24,9 @@ use Rattle.world.specs.declared.Numbers.{Numbers}
 -- ---- the children that there are already
 
 -- Held with exactly these rights.
-abbrev pub held_with : ℕ → Got → Bool
-held_with rights (Entry e) = eqb e.rights.0 rights
-held_with rights Nothing = false
+abbrev pub held_with : ℕ → Option CapabilityEntry → Bool
+held_with rights (Some e) = eqb e.rights.0 rights
+held_with rights None = false
 
 -- Place k is an unrevoked child of place p.
 abbrev pub open_child : Numbers → List ℕ → ℕ → ℕ → Bool
@@ -94,9 +93,9 @@ offering d target token rights o =
     pick o.held (record { reply = done o.token; memory = o.memory }) (with_room d target token rights o.memory)
 
 -- 1 for a token that the source space has not, 6 without GRANT; derived rights are both sets' common bits.
-abbrev pub granting : Numbers → ℕ → ℕ → ℕ → List ℕ → Got → Left Reply
-granting d target token rights mem Nothing = refuse mem InvalidCapability
-granting d target token rights mem (Entry e) =
+abbrev pub granting : Numbers → ℕ → ℕ → ℕ → List ℕ → Option CapabilityEntry → Left Reply
+granting d target token rights mem None = refuse mem InvalidCapability
+granting d target token rights mem (Some e) =
     let both_sets = common e.rights.0 rights in
     when (not (holds e.rights.0 GRANT)) (refuse mem PermissionDenied)
     (offering d target token both_sets (offered d target token both_sets mem))

@@ -13,7 +13,6 @@ use space_steps::spaces;
 use steps::enter::enter_space;
 use steps::replies::{done, refusal};
 use steps::{Entered, Reply};
-use table::Got;
 use token::{CapabilityToken, Rights};
 use world::Numbers;
 
@@ -52,8 +51,8 @@ fn delegate_from(
     let l = spaces::lookup(mem, d, source, token);
     let got = l.got;
     match got {
-        Got::Nothing => refusal(Answer::InvalidCapability),
-        Got::Entry(entry) => {
+        None => refusal(Answer::InvalidCapability),
+        Some(entry) => {
             let held = entry.rights;
             if !held.contains(Rights::GRANT) {
                 return refusal(Answer::PermissionDenied);

@@ -9,7 +9,6 @@ use manager_calls::tokens::token_of;
 use space::LookedUp;
 use space_steps::spaces;
 use steps::registered::{id_at, link_at, place_of, state_at};
-use table::Got;
 use token::{CapabilityToken, Rights};
 use world::Numbers;
 use world::head::REGISTERED;
@@ -27,11 +26,11 @@ fn held_with(l: LookedUp, rights: Rights) -> bool
 {
     let got = l.got;
     match got {
-        Got::Entry(entry) => {
+        Some(entry) => {
             let held = entry.rights;
             held.0 == rights.0
         }
-        Got::Nothing => false,
+        None => false,
     }
 }
 

@@ -1,6 +1,6 @@
 -- Every walk over a table's slots that a call makes, for an id or for a free place: the live and removed entries that stand in the table
 -- when it begins, and the slots that it visits. A walk is named with the moment of the call at which it begins.
-use Rattle.std.specs.Prelude.{Bool, true, false, List, [], ◌∷◌, ◌≡◌, ℕ, suc, ◌+◌, ◌^◌, ◌≤◌, ◌<◌}
+use Rattle.std.specs.Prelude.{Bool, true, false, List, [], ◌∷◌, ◌≡◌, ℕ, suc, ◌+◌, ◌^◌, ◌≤◌, ◌<◌, None, Some}
 use Rattle.base.specs.Below.{sum, one}
 use Rattle.delegation_calls.specs.Delegation.{held_with, open_child, offered}
 use Rattle.manager_calls.specs.Tokens.{token_of, current}
@@ -14,8 +14,6 @@ use Rattle.table.specs.Slots.{is_live, is_removed, id_at, id_of}
 use Rattle.table.specs.Walk.{search, steps_to_free}
 use Rattle.table.specs.declared.CapTable.{CapTable}
 use Rattle.table.specs.declared.CapabilityEntry.{CapabilityEntry}
-use Rattle.table.specs.declared.Found.TheVariants.{Absent}
-use Rattle.table.specs.declared.Got.TheVariants.{Entry}
 use Rattle.token.specs.Rights.{common}
 use Rattle.token.specs.Token.{made, type_of, id_of as token_id}
 use Rattle.token.specs.declared.capability.CapabilityToken.{CapabilityToken}
@@ -79,7 +77,7 @@ pub data LooksOver (sp : List ℕ) : Walk → Type 0 where
 pub data InsertsInto (sp : List ℕ) (id : ℕ) : Walk → Type 0 where
   testing : InsertsInto sp id (seeking sp id)
   storing :
-      (w : Walk) → (table_of sp).full < quota_of sp → (search_id sp id).found ≡ Absent → Inserts (slot_words sp) (table_of sp) id w
+      (w : Walk) → (table_of sp).full < quota_of sp → (search_id sp id).found ≡ None → Inserts (slot_words sp) (table_of sp) id w
       → InsertsInto sp id w
 
 -- ---- of a delegation, in the memory of a world whose numbers are d
@@ -181,7 +179,7 @@ pub data WalksOf (d : Numbers) (mem : List ℕ) : Call → Walk → Type 0 where
       → WalksOf d mem (accepts (delegate token source target rights fits)) (seeking (space_of d source mem) (token_id token))
   in_delegate :
       (token source target rights : ℕ) (fits : rights < 2 ^ 32) (e : CapabilityEntry) (w : Walk) → source < d.spaces → target < d.spaces
-      → (looked_up (space_of d source mem) token).got ≡ Entry e
+      → (looked_up (space_of d source mem) token).got ≡ Some e
       → Delegates d target token (common e.rights.0 rights) (lookup_step d source token mem) w
       → WalksOf d mem (accepts (delegate token source target rights fits)) w
 

@@ -1,6 +1,6 @@
 -- The calls of the manager but revoke and delegate, children and their statistics, and the census: what each answers and leaves, on every
 -- memory and every argument. Document 01's order of refusals: 26, 20, 21, then the source's.
-use Rattle.std.specs.Prelude.{Bool, false, not, List, ℕ, ◌^◌, leb, ltb, get_or}
+use Rattle.std.specs.Prelude.{Bool, false, not, List, ℕ, ◌^◌, leb, ltb, get_or, Option, None, Some}
 use Rattle.answers.specs.declared.Answer.{Answer}
 use Rattle.answers.specs.declared.Answer.TheVariants.{Done, InsufficientRights, CapabilityRevoked, InvalidObject, NotFound, IdExhausted, BadField, RegistryFull, RecycleFull}
 use Rattle.base.specs.Below.{one}
@@ -14,8 +14,6 @@ use Rattle.steps.specs.Steps.{space_of, lookup_step, taken_id, take_step, place_
 use Rattle.steps.specs.declared.Reply.{Reply}
 use Rattle.steps.specs.declared.Taken.{Taken}
 use Rattle.steps.specs.declared.Taken.TheVariants.{Id, Exhausted}
-use Rattle.table.specs.declared.Got.{Got}
-use Rattle.table.specs.declared.Got.TheVariants.{Entry, Nothing}
 use Rattle.token.specs.Rights.{holds}
 use Rattle.token.specs.Token.{id_of}
 use Rattle.world.specs.Numbers.{created_word, delegated_word, revoked_word, deleted_word, registered_of, recycled_of}
@@ -25,6 +23,7 @@ use Rattle.manager_calls.specs.Admit.{admitted}
 use Rattle.manager_calls.specs.Tokens.{token_of, current}
 use Rattle.manager_calls.specs.declared.StatsReply.{StatsReply}
 use Rattle.manager_calls.specs.declared.TreeReply.{TreeReply}
+use Rattle.table.specs.declared.CapabilityEntry.{CapabilityEntry}
 
 -- ---- create
 
@@ -63,9 +62,9 @@ valid_in d mem token =
     both (ltb k (registered_of mem)) (current d mem token k)
 
 -- Held with all the rights required.
-abbrev pub grants : ℕ → Got → Bool
-grants required (Entry e) = holds e.rights.0 required
-grants required Nothing = false
+abbrev pub grants : ℕ → Option CapabilityEntry → Bool
+grants required (Some e) = holds e.rights.0 required
+grants required None = false
 
 -- Rights first (2), then registered, unrevoked, same generation (3). The lookup is counted as any, and the count is its visits.
 unfoldable pub check_out : List ℕ → ℕ → ℕ → ℕ → Left Reply

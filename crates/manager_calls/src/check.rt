@@ -12,7 +12,6 @@ use steps::enter::{enter_space, enter_world};
 use steps::registered::place_of;
 use steps::replies::{done, refusal, replied};
 use steps::{Entered, Reply};
-use table::Got;
 use token::{CapabilityToken, Rights};
 use world::Numbers;
 use world::head::REGISTERED;
@@ -35,11 +34,11 @@ fn grants(l: LookedUp, required: Rights) -> bool
 {
     let got = l.got;
     match got {
-        Got::Entry(entry) => {
+        Some(entry) => {
             let rights = entry.rights;
             rights.contains(required)
         }
-        Got::Nothing => false,
+        None => false,
     }
 }
 

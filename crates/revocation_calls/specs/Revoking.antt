@@ -1,6 +1,6 @@
 -- Document 01, "Revocation": what a revocation does once its arguments are good. d are the numbers of a sound memory; `listed` is the
 -- process list.
-use Rattle.std.specs.Prelude.{not, List, [], ◌∷◌, ℕ, ◌+◌, eqb, ltb, length}
+use Rattle.std.specs.Prelude.{not, List, [], ◌∷◌, ℕ, ◌+◌, eqb, ltb, length, Option, None, Some}
 use Rattle.answers.specs.Number.{number_of}
 use Rattle.answers.specs.declared.Answer.TheVariants.{InsufficientRights, NotFound, LogFull}
 use Rattle.base.specs.Below.{one}
@@ -11,8 +11,7 @@ use Rattle.steps.specs.Replies.{Left, replied, done, refuse}
 use Rattle.revocation_steps.specs.Revocation.{log_of, log_step}
 use Rattle.steps.specs.Steps.{place_in, add_step}
 use Rattle.steps.specs.declared.Reply.{Reply}
-use Rattle.table.specs.declared.Got.{Got}
-use Rattle.table.specs.declared.Got.TheVariants.{Entry, Nothing}
+use Rattle.table.specs.declared.CapabilityEntry.{CapabilityEntry}
 use Rattle.token.specs.Rights.{REVOKE, holds}
 use Rattle.token.specs.Token.{id_of, generation_of}
 use Rattle.world.specs.Numbers.{registered_of, logged_of, epoch_word}
@@ -32,9 +31,9 @@ revoking_token d token time listed mem =
     pick (ltb r (registered_of mem)) (revoking d r time listed mem) (logging_token d token mem)
 
 -- Held revoke: 8 for a token that the space has not, 2 without REVOKE. The count is the visits of its lookup.
-abbrev pub revoking_held : Numbers → ℕ → ℕ → List ℕ → List ℕ → Got → ℕ → Left Reply
-revoking_held d token time listed mem Nothing visits = record { reply = replied NotFound 0 visits; memory = mem }
-revoking_held d token time listed mem (Entry e) visits =
+abbrev pub revoking_held : Numbers → ℕ → ℕ → List ℕ → List ℕ → Option CapabilityEntry → ℕ → Left Reply
+revoking_held d token time listed mem None visits = record { reply = replied NotFound 0 visits; memory = mem }
+revoking_held d token time listed mem (Some e) visits =
     let left = revoking_token d token time listed mem in
     when (not (holds e.rights.0 REVOKE)) (record { reply = replied InsufficientRights 0 visits; memory = mem })
     (record { reply = replied left.reply.answer 0 visits; memory = left.memory })

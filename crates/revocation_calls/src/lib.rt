@@ -19,7 +19,6 @@ use steps::enter::{enter_space, enter_world};
 use steps::registered::{add, place_of};
 use steps::replies::{done, refusal, replied};
 use steps::{Entered, Reply};
-use table::Got;
 use token::{CapabilityToken, Rights};
 use world::Numbers;
 use world::head::{EPOCH, LOGGED, REGISTERED};
@@ -73,8 +72,8 @@ fn revoke_looked_up(
 {
     let got = l.got;
     match got {
-        Got::Nothing => replied(Answer::NotFound, 0, l.visits),
-        Got::Entry(entry) => {
+        None => replied(Answer::NotFound, 0, l.visits),
+        Some(entry) => {
             let held = entry.rights;
             if !held.contains(Rights::REVOKE) {
                 return replied(Answer::InsufficientRights, 0, l.visits);

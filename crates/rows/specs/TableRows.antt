@@ -1,14 +1,12 @@
 -- Document 01's rows about one table, P1 to P7. Every table here starts from nothing, and where a row names no ids they are 0, 1, 2 and
 -- so on.
-use Rattle.std.specs.Prelude.{Bool, List, [], ◌∷◌, ℕ, zero, suc, eqb, replicate}
+use Rattle.std.specs.Prelude.{Bool, List, [], ◌∷◌, ℕ, zero, suc, eqb, replicate, Option, None, Some}
 use Rattle.base.specs.Arith.{next_power}
 use Rattle.base.specs.Below.{first, first_from}
 use Rattle.base.specs.Choose.{both}
 use Rattle.table.specs.Slots.{entry_at, put_entry, put_mark}
 use Rattle.table.specs.Walk.{home_of, walk, search, steps_to_stop, steps_to_free, free_for}
 use Rattle.table.specs.Insert.{Table, insert_new, none, live_entries, placed, made_room, crowded, room_for, rebuilt, place_all, emptied, removed_at}
-use Rattle.table.specs.declared.Found.{Found}
-use Rattle.table.specs.declared.Found.TheVariants.{At, Absent}
 use Rattle.table.specs.declared.Search.{Search}
 use Rattle.rows.specs.Claims.{same}
 
@@ -28,10 +26,10 @@ unfolding insert_new placed made_room crowded room_for next_power rebuilt place_
 insert id t =
     insert_new t.words t.counts (record { capability = record { 0 = id }; object = 0; rights = record { 0 = 0 }; uses = 0 })
 
-remove_found : Found → Table → Table
+remove_found : Option ℕ → Table → Table
 unfolding removed_at put_mark
-remove_found (At i) t = removed_at t.words t.counts i
-remove_found Absent t = t
+remove_found (Some i) t = removed_at t.words t.counts i
+remove_found None t = t
 
 remove : ℕ → Table → Table
 unfolding remove_found find
@@ -66,9 +64,9 @@ unfolding find met
 visited id t = met id t.counts.slots 0 (find id t).visits
 
 -- The slot, or none.
-place : Found → List ℕ
-place (At i) = i ∷ []
-place Absent = []
+place : Option ℕ → List ℕ
+place (Some i) = i ∷ []
+place None = []
 
 -- Live entries, removed ones, slots, and the entries that the last call moved.
 numbers : Table → List ℕ

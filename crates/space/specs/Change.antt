@@ -1,16 +1,13 @@
 -- What changes one space: inserting, removing, clearing, and its generation. Document 01, "Table of a space (001)".
-use Rattle.std.specs.Prelude.{ℕ, ◌+◌, ◌%◌, ◌^◌, List, nat_le, slice_set}
-use Rattle.answers.specs.declared.Answer.{Answer}
-use Rattle.answers.specs.declared.Answer.TheVariants.{Done, AlreadyExists, SpaceQuota}
+use Rattle.std.specs.Prelude.{ℕ, ◌+◌, ◌%◌, ◌^◌, List, nat_le, slice_set, Option, None, Some, Result, Ok, Err}
+use Rattle.answers.specs.Answer.{Answer, Done, AlreadyExists, SpaceQuota, answer_of}
+use Rattle.answers.specs.declared.Refusal.{Refusal}
 use Rattle.base.specs.Choose.{when}
 use Rattle.table.specs.Insert.{Table, insert_new, removed_at, none}
 use Rattle.table.specs.Slots.{id_of}
 use Rattle.table.specs.declared.CapabilityEntry.{CapabilityEntry}
-use Rattle.table.specs.declared.Found.{Found}
-use Rattle.table.specs.declared.Found.TheVariants.{At, Absent}
 use Rattle.space.specs.Words.{quota_of, generation_of, table_of, slot_words, with_counts, with_table}
 use Rattle.space.specs.Lookup.{is_found, search_id, exactly}
-use Rattle.space.specs.declared.Insertion.{Insertion}
 
 -- ---- inserting
 
@@ -20,8 +17,13 @@ pub record InsertOut : Type 0 where
   pub answer : Answer
   pub moved : ℕ
 
-abbrev pub answered : Insertion → List ℕ → InsertOut
-answered r sp = record { words = sp; answer = r.answer; moved = r.moved }
+-- What the code answers, as that record: a refusal moves nothing.
+abbrev pub moved_of : Result ℕ Refusal → ℕ
+moved_of (Ok moved) = moved
+moved_of (Err refusal) = 0
+
+abbrev pub answered : Result ℕ Refusal → List ℕ → InsertOut
+answered r sp = record { words = sp; answer = answer_of r; moved = moved_of r }
 
 -- A refusal changes nothing.
 abbrev pub refused : List ℕ → Answer → InsertOut
@@ -51,9 +53,9 @@ removed_table sp i = removed_at (slot_words sp) (table_of sp) i
 unfoldable pub removed : List ℕ → ℕ → List ℕ
 removed sp i = with_table sp (removed_table sp i)
 
-abbrev pub removed_found : List ℕ → Found → List ℕ
-removed_found sp (At i) = removed sp i
-removed_found sp Absent = sp
+abbrev pub removed_found : List ℕ → Option ℕ → List ℕ
+removed_found sp (Some i) = removed sp i
+removed_found sp None = sp
 
 -- Only exactly the token removes its entry.
 unfoldable pub removed_token : List ℕ → ℕ → List ℕ

@@ -1,9 +1,7 @@
 -- Document 01: lookup matches the whole token and counts hits, misses and uses in 64 bits, wrapping.
-use Rattle.std.specs.Prelude.{◌≡◌, ℕ, ◌+◌, ◌*◌, ◌%◌, ◌^◌, Bool, true, false, List, ◌==◌, slice_index, slice_set}
+use Rattle.std.specs.Prelude.{◌≡◌, ℕ, ◌+◌, ◌*◌, ◌%◌, ◌^◌, Bool, true, false, List, ◌==◌, slice_index, slice_set, Option, None, Some}
 use Rattle.base.specs.Choose.{pick}
 use Rattle.table.specs.Walk.{search, got_at}
-use Rattle.table.specs.declared.Found.{Found}
-use Rattle.table.specs.declared.Found.TheVariants.{At, Absent}
 use Rattle.table.specs.declared.Search.{Search}
 use Rattle.token.specs.Token.{id_of}
 use Rattle.space.specs.Words.{hits_of, misses_of, table_of, slot_words, InRange, SlotOf}
@@ -13,9 +11,9 @@ use Rattle.space.specs.declared.LookedUp.{LookedUp}
 abbrev pub up : ℕ → ℕ
 up n = (n + 1) % 2 ^ 64
 
-abbrev pub is_found : Found → Bool
-is_found (At i) = true
-is_found Absent = false
+abbrev pub is_found : Option ℕ → Bool
+is_found (Some i) = true
+is_found None = false
 
 -- The search for an id.
 abbrev pub search_id : List ℕ → ℕ → Search
@@ -26,12 +24,12 @@ abbrev pub search_for : List ℕ → ℕ → Search
 search_for sp token = search_id sp (id_of token)
 
 -- A slot that was found counts only if it holds the whole token.
-abbrev pub wholly : List ℕ → ℕ → Found → Found
-wholly sp token (At i) = pick (slice_index sp (8 + 4 * i) == token) (At i) Absent
-wholly sp token Absent = Absent
+abbrev pub wholly : List ℕ → ℕ → Option ℕ → Option ℕ
+wholly sp token (Some i) = pick (slice_index sp (8 + 4 * i) == token) (Some i) None
+wholly sp token None = None
 
 -- The slot that holds exactly the token.
-unfoldable pub exactly : List ℕ → ℕ → Found
+unfoldable pub exactly : List ℕ → ℕ → Option ℕ
 exactly sp token = wholly sp token (search_for sp token).found
 
 -- The same with the visits of the search.
@@ -41,7 +39,7 @@ exact_search sp token = record { found = exactly sp token; visits = (search_for 
 -- A search of the space: the slot where it ended is one of the table's.
 pub record SearchOf (sp : List ℕ) (s : Search) : Type 0 where
   pub range : InRange sp
-  pub slot : (i : ℕ) → s.found ≡ At i → SlotOf sp i
+  pub slot : (i : ℕ) → s.found ≡ Some i → SlotOf sp i
 
 -- What a search answers: the entry of the slot where it ended, and its visits.
 abbrev pub entry_of : List ℕ → Search → LookedUp
@@ -60,9 +58,9 @@ abbrev pub with_use : List ℕ → ℕ → List ℕ
 with_use sp i = slice_set sp (8 + 4 * i + 2) (up (slice_index sp (8 + 4 * i + 2)))
 
 -- The lookup counted: a hit with its entry's use, or a miss.
-abbrev pub counted_at : List ℕ → Found → List ℕ
-counted_at sp (At i) = slice_set (slice_set sp 2 (up (hits_of sp))) (8 + 4 * i + 2) (up (slice_index sp (8 + 4 * i + 2)))
-counted_at sp Absent = slice_set sp 3 (up (misses_of sp))
+abbrev pub counted_at : List ℕ → Option ℕ → List ℕ
+counted_at sp (Some i) = slice_set (slice_set sp 2 (up (hits_of sp))) (8 + 4 * i + 2) (up (slice_index sp (8 + 4 * i + 2)))
+counted_at sp None = slice_set sp 3 (up (misses_of sp))
 
 unfoldable pub counted : List ℕ → ℕ → List ℕ
 counted sp token = counted_at sp (exactly sp token)

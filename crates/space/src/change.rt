@@ -6,9 +6,9 @@ ghost use Rattle.space.specs.Change.{inserted_table, inserted, insert_out, answe
 
 use super::find::{entry_of, exact, is_found, search_id};
 use super::words::{TABLE, generation, put_generation, put_table, quota, table_of, used};
-use super::{Insertion, LookedUp};
-use answers::Answer;
-use table::{CapTable, CapabilityEntry, Found};
+use super::LookedUp;
+use answers::Refusal;
+use table::{CapTable, CapabilityEntry};
 use token::CapabilityToken;
 
 // Whether an entry has the id.
@@ -31,28 +31,19 @@ fn accept(sp: &mut [u64], entry: CapabilityEntry) -> usize
     s.moved
 }
 
-// Insert an entry: 11 at or over the quota, then 7 for an id that is already there.
-pub fn insert(sp: &mut [u64], entry: CapabilityEntry) -> Insertion
+// Insert an entry: 11 at or over the quota, then 7 for an id that is already there. The answer is how many entries a rebuild moved.
+pub fn insert(sp: &mut [u64], entry: CapabilityEntry) -> Result<usize, Refusal>
     requires { InRange sp.old }
     ensures { answered result sp.new ≡ insert_out sp.old entry }
 {
     let capability = entry.capability;
     if quota(sp) <= used(sp) {
-        return Insertion {
-            answer: Answer::SpaceQuota,
-            moved: 0,
-        };
+        return Err(Refusal::SpaceQuota);
     }
     if holds_id(sp, capability.id()) {
-        return Insertion {
-            answer: Answer::AlreadyExists,
-            moved: 0,
-        };
+        return Err(Refusal::AlreadyExists);
     }
-    Insertion {
-        answer: Answer::Done,
-        moved: accept(sp, entry),
-    }
+    Ok(accept(sp, entry))
 }
 
 // The entry of slot i leaves.
@@ -75,7 +66,7 @@ pub fn remove(sp: &mut [u64], token: CapabilityToken) -> LookedUp
     let s = exact(sp, token);
     let answer = entry_of(sp, s);
     let found = s.found;
-    let Found::At(i) = found else {
+    let Some(i) = found else {
         return answer;
     };
     remove_slot(sp, i);

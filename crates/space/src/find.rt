@@ -1,5 +1,5 @@
 // Finding an entry: by its whole token, counted; by its id alone; by its place in slot order.
-ghost use Rattle.std.specs.Prelude.{◌≡◌};
+ghost use Rattle.std.specs.Prelude.{◌≡◌, Some};
 ghost use Rattle.table.specs.Slots.{entry_at};
 ghost use Rattle.table.specs.Insert.{live_entries};
 ghost use Rattle.table.specs.Copy.{nth_of};
@@ -9,7 +9,7 @@ ghost use Rattle.space.specs.Lookup.{is_found, search_id, SearchOf, entry_of, wh
 use super::LookedUp;
 use super::counters::lend;
 use super::words::{TABLE, counters_of, put_counters, table_capacity};
-use table::{CapabilityEntry, Found, Got, Nth, Search};
+use table::{CapabilityEntry, Search};
 use token::CapabilityToken;
 
 pub fn search_id(sp: &[u64], id: u64) -> Search
@@ -24,8 +24,8 @@ pub fn is_found(s: Search) -> bool
 {
     let found = s.found;
     match found {
-        Found::At(_) => true,
-        Found::Absent => false,
+        Some(_) => true,
+        None => false,
     }
 }
 
@@ -42,27 +42,27 @@ pub fn entry_of(sp: &[u64], s: Search) -> LookedUp
     ensures { result ≡ entry_of sp.now s }
 {
     let found = s.found;
-    let Found::At(i) = found else {
+    let Some(i) = found else {
         return LookedUp {
-            got: Got::Nothing,
+            got: None,
             visits: s.visits,
         };
     };
     LookedUp {
-        got: Got::Entry(entry_at(sp, i)),
+        got: Some(entry_at(sp, i)),
         visits: s.visits,
     }
 }
 
 // Slot i, if it holds the whole token.
-fn whole(sp: &[u64], token: u64, i: usize) -> Found
+fn whole(sp: &[u64], token: u64, i: usize) -> Option<usize>
     requires { SlotOf sp.now i }
-    ensures { result ≡ wholly sp.now token (Found.At i) }
+    ensures { result ≡ wholly sp.now token (Some i) }
 {
     if sp[TABLE + 4 * i] == token {
-        return Found::At(i);
+        return Some(i);
     }
-    Found::Absent
+    None
 }
 
 // The slot that holds exactly the token, and the slots that the search of its id visited.
@@ -72,7 +72,7 @@ pub fn exact(sp: &[u64], token: CapabilityToken) -> Search
 {
     let s = search_id(sp, token.id());
     let found = s.found;
-    let Found::At(i) = found else {
+    let Some(i) = found else {
         return s;
     };
     Search {
@@ -101,7 +101,7 @@ pub fn lookup(sp: &mut [u64], token: CapabilityToken) -> LookedUp
     let after = counted.counters;
     let answer = entry_of(sp, s);
     let found = s.found;
-    let Found::At(i) = found else {
+    let Some(i) = found else {
         put_counters(sp, after);
         return answer;
     };
@@ -119,7 +119,7 @@ pub fn get_entry(sp: &[u64], id: u64) -> LookedUp
 }
 
 // The n-th live entry in slot order, n from 0.
-pub fn nth_entry(sp: &[u64], n: usize) -> Nth
+pub fn nth_entry(sp: &[u64], n: usize) -> Option<CapabilityEntry>
     requires { InRange sp.now }
     ensures { result ≡ nth_of (live_entries (slot_words sp.now) 0 (table_of sp.now).slots) n }
 {

@@ -10,25 +10,17 @@ mod ids;
 mod sound;
 mod words;
 
-use answers::Answer;
 pub use change::{clear, insert, next_generation, remove};
 pub use copy::{gather, replace};
 pub use find::{get_entry, lookup, nth_entry};
 pub use ids::entry_ids;
 pub use sound::is_sound;
-use table::Got;
+use table::CapabilityEntry;
 pub use words::{SLOTS, TABLE, generation, hits, misses, quota, table_capacity, used};
 
 // The entry that a call found, if it found one, and the slots that its search visited.
-#[derive(Clone, Copy)]
+#[derive(Clone, Copy, PartialEq, Eq, Debug)]
 pub struct LookedUp {
-    pub got: Got,
+    pub got: Option<CapabilityEntry>,
     pub visits: usize,
-}
-
-// What an insert answers, and the entries that its rebuild moved.
-#[derive(Clone, Copy)]
-pub struct Insertion {
-    pub answer: Answer,
-    pub moved: usize,
 }

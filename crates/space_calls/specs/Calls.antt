@@ -1,6 +1,6 @@
 -- The calls that change a space: what each answers and leaves, on every memory and every argument. Document 01's order of refusals: 26,
 -- 20, 21, then the source's.
-use Rattle.std.specs.Prelude.{not, List, ℕ, ltb}
+use Rattle.std.specs.Prelude.{not, List, ℕ, ltb, Option}
 use Rattle.answers.specs.declared.Answer.TheVariants.{Done, IdExhausted, SpaceIds, BadSpace}
 use Rattle.base.specs.Choose.{when}
 use Rattle.space.specs.Change.{insert_out}
@@ -11,7 +11,6 @@ use Rattle.steps.specs.Steps.{space_of, new_entry, next_step, insert_step, inser
 use Rattle.steps.specs.declared.Taken.{Taken}
 use Rattle.steps.specs.declared.Taken.TheVariants.{Id, Exhausted}
 use Rattle.table.specs.declared.CapabilityEntry.{CapabilityEntry}
-use Rattle.table.specs.declared.Got.{Got}
 use Rattle.token.specs.Token.{made}
 use Rattle.token.specs.declared.capability.Made.{Made}
 use Rattle.token.specs.declared.capability.Made.TheVariants.{Token, Refused}
@@ -31,10 +30,10 @@ unfoldable pub insert_call_out : List ℕ → ℕ → ℕ → ℕ → ℕ → Le
 insert_call_out mem s token object rights = on_space (refuse mem) mem s (λ d. inserting d s (new_entry token object rights) 0 mem)
 
 -- An entry that left: its object is the value, or nothing is.
-abbrev pub object_reply : Got → ℕ → Reply
+abbrev pub object_reply : Option CapabilityEntry → ℕ → Reply
 object_reply got visits = found_reply (λ e. e.object) got visits
 
-abbrev pub gone_reply : Got → ℕ → Reply
+abbrev pub gone_reply : Option CapabilityEntry → ℕ → Reply
 gone_reply got visits = found_reply (λ e. 0) got visits
 
 -- Only exactly the token removes its entry.

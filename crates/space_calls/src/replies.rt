@@ -6,15 +6,14 @@ use answers::Answer;
 use space::LookedUp;
 use steps::Reply;
 use steps::replies::replied;
-use table::Got;
 
 pub fn object_reply(l: LookedUp) -> Reply
     ensures { result ≡ object_reply l.got l.visits }
 {
     let got = l.got;
     match got {
-        Got::Entry(entry) => replied(Answer::Done, entry.object, l.visits),
-        Got::Nothing => replied(Answer::NotFound, 0, l.visits),
+        Some(entry) => replied(Answer::Done, entry.object, l.visits),
+        None => replied(Answer::NotFound, 0, l.visits),
     }
 }
 
@@ -23,7 +22,7 @@ pub fn gone_reply(l: LookedUp) -> Reply
 {
     let got = l.got;
     match got {
-        Got::Entry(_) => replied(Answer::Done, 0, l.visits),
-        Got::Nothing => replied(Answer::NotFound, 0, l.visits),
+        Some(_) => replied(Answer::Done, 0, l.visits),
+        None => replied(Answer::NotFound, 0, l.visits),
     }
 }

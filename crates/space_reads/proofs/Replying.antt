@@ -1,5 +1,5 @@
 -- What a call answers by what its step found.
-use Rattle.std.proofs.Common.{Bool, ◌≡◌, ap, ◌∙◌, ℕ}
+use Rattle.std.proofs.Common.{Bool, ◌≡◌, ap, ◌∙◌, ℕ, Option, None, Some}
 use Rattle.answers.specs.declared.Answer.TheVariants.{Done, NotFound}
 use Rattle.base.specs.Below.{one}
 use Rattle.space.specs.declared.LookedUp.{LookedUp}
@@ -7,34 +7,32 @@ use Rattle.steps.proofs.Entering.{enters}
 use Rattle.steps.specs.Replies.{replied}
 use Rattle.steps.specs.declared.Reply.{Reply}
 use Rattle.table.specs.declared.CapabilityEntry.{CapabilityEntry}
-use Rattle.table.specs.declared.Got.{Got}
-use Rattle.table.specs.declared.Got.TheVariants.{Entry, Nothing}
 use Rattle.token.specs.Rights.{holds}
 use Rattle.space_reads.specs.Replies.{found_reply, held_reply, whole_entry, no_entry, entry_reply}
 use Rattle.space_reads.specs.declared.EntryReply.{EntryReply}
 
 -- ---- from what was got, an entry or nothing
 
-module _ (got : Got) (visits : ℕ) where
-  pub found_entry : (value : CapabilityEntry → ℕ) (e : CapabilityEntry) (r : Reply) → got ≡ Entry e → r ≡ replied Done (value e) visits
+module _ (got : Option CapabilityEntry) (visits : ℕ) where
+  pub found_entry : (value : CapabilityEntry → ℕ) (e : CapabilityEntry) (r : Reply) → got ≡ Some e → r ≡ replied Done (value e) visits
       → r ≡ found_reply value got visits
   found_entry value e r is told = rw is told
 
-  pub found_nothing : (value : CapabilityEntry → ℕ) (r : Reply) → got ≡ Nothing → r ≡ replied NotFound 0 visits
+  pub found_nothing : (value : CapabilityEntry → ℕ) (r : Reply) → got ≡ None → r ≡ replied NotFound 0 visits
       → r ≡ found_reply value got visits
   found_nothing value r is told = rw is told
 
-  pub held_entry : (required : ℕ) (e : CapabilityEntry) (b : Bool) (r : Reply) → got ≡ Entry e → b ≡ holds e.rights.0 required
+  pub held_entry : (required : ℕ) (e : CapabilityEntry) (b : Bool) (r : Reply) → got ≡ Some e → b ≡ holds e.rights.0 required
       → r ≡ replied Done (one b) visits → r ≡ held_reply required got visits
   held_entry required e b r is tested told = rw is (told ∙ ap (λ b. replied Done (one b) visits) tested)
 
-  pub held_nothing : (required : ℕ) (r : Reply) → got ≡ Nothing → r ≡ replied Done 0 visits → r ≡ held_reply required got visits
+  pub held_nothing : (required : ℕ) (r : Reply) → got ≡ None → r ≡ replied Done 0 visits → r ≡ held_reply required got visits
   held_nothing required r is told = rw is told
 
-  pub entry_replied : (e : CapabilityEntry) (r : EntryReply) → got ≡ Entry e → r ≡ whole_entry e visits → r ≡ entry_reply got visits
+  pub entry_replied : (e : CapabilityEntry) (r : EntryReply) → got ≡ Some e → r ≡ whole_entry e visits → r ≡ entry_reply got visits
   entry_replied e r is told = rw is told
 
-  pub whole_nothing : (r : EntryReply) → got ≡ Nothing → r ≡ no_entry NotFound visits → r ≡ entry_reply got visits
+  pub whole_nothing : (r : EntryReply) → got ≡ None → r ≡ no_entry NotFound visits → r ≡ entry_reply got visits
   whole_nothing r is told = rw is told
 
 pub ruleset answers = (found_entry, found_nothing, held_entry, held_nothing, entry_replied, whole_nothing)

@@ -1,14 +1,10 @@
 -- What a call answers for what a step found: document 01's answer, the values, and the added counts. A refusal's values are 0;
 -- a search's visits are answered whether it found the entry or not.
-use Rattle.std.specs.Prelude.{ℕ}
+use Rattle.std.specs.Prelude.{ℕ, Option, None, Some}
 use Rattle.answers.specs.declared.Answer.{Answer}
 use Rattle.answers.specs.declared.Answer.TheVariants.{Done, NotFound}
 use Rattle.base.specs.Below.{one}
 use Rattle.table.specs.declared.CapabilityEntry.{CapabilityEntry}
-use Rattle.table.specs.declared.Got.{Got}
-use Rattle.table.specs.declared.Got.TheVariants.{Entry, Nothing}
-use Rattle.table.specs.declared.Nth.{Nth}
-use Rattle.table.specs.declared.Nth.TheVariants as nth
 use Rattle.token.specs.Rights.{holds}
 use Rattle.steps.specs.Replies.{replied}
 use Rattle.steps.specs.declared.Reply.{Reply}
@@ -18,17 +14,17 @@ use Rattle.space_reads.specs.declared.FactsReply.{FactsReply}
 -- ---- an entry that was looked for
 
 -- 0 with its value, or 8.
-abbrev pub found_reply : (CapabilityEntry → ℕ) → Got → ℕ → Reply
-found_reply value (Entry e) visits = replied Done (value e) visits
-found_reply value Nothing visits = replied NotFound 0 visits
+abbrev pub found_reply : (CapabilityEntry → ℕ) → Option CapabilityEntry → ℕ → Reply
+found_reply value (Some e) visits = replied Done (value e) visits
+found_reply value None visits = replied NotFound 0 visits
 
-abbrev pub rights_reply : Got → ℕ → Reply
+abbrev pub rights_reply : Option CapabilityEntry → ℕ → Reply
 rights_reply got visits = found_reply (λ e. e.rights.0) got visits
 
 -- Whether the token is held with the rights: 1 or 0.
-abbrev pub held_reply : ℕ → Got → ℕ → Reply
-held_reply required (Entry e) visits = replied Done (one (holds e.rights.0 required)) visits
-held_reply required Nothing visits = replied Done 0 visits
+abbrev pub held_reply : ℕ → Option CapabilityEntry → ℕ → Reply
+held_reply required (Some e) visits = replied Done (one (holds e.rights.0 required)) visits
+held_reply required None visits = replied Done 0 visits
 
 -- ---- an entry as the answer
 
@@ -40,14 +36,14 @@ abbrev pub no_entry : Answer → ℕ → EntryReply
 no_entry answer visits =
     record { answer = answer; token = record { 0 = 0 }; object = 0; rights = record { 0 = 0 }; uses = 0; visits = visits }
 
-abbrev pub entry_reply : Got → ℕ → EntryReply
-entry_reply (Entry e) visits = whole_entry e visits
-entry_reply Nothing visits = no_entry NotFound visits
+abbrev pub entry_reply : Option CapabilityEntry → ℕ → EntryReply
+entry_reply (Some e) visits = whole_entry e visits
+entry_reply None visits = no_entry NotFound visits
 
 -- The n-th entry; 8 past the last.
-abbrev pub nth_reply : Nth → EntryReply
-nth_reply (nth.Entry e) = whole_entry e 0
-nth_reply nth.Past = no_entry NotFound 0
+abbrev pub nth_reply : Option CapabilityEntry → EntryReply
+nth_reply (Some e) = whole_entry e 0
+nth_reply None = no_entry NotFound 0
 
 -- ---- all that a space says of itself
 

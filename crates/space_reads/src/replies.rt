@@ -7,7 +7,7 @@ use answers::Answer;
 use space::LookedUp;
 use steps::replies::replied;
 use steps::{Facts, Reply};
-use table::{CapabilityEntry, Got, Nth};
+use table::CapabilityEntry;
 use token::{CapabilityToken, Rights};
 
 pub fn rights_reply(l: LookedUp) -> Reply
@@ -15,11 +15,11 @@ pub fn rights_reply(l: LookedUp) -> Reply
 {
     let got = l.got;
     match got {
-        Got::Entry(entry) => {
+        Some(entry) => {
             let rights = entry.rights;
             replied(Answer::Done, rights.0 as u64, l.visits)
         }
-        Got::Nothing => replied(Answer::NotFound, 0, l.visits),
+        None => replied(Answer::NotFound, 0, l.visits),
     }
 }
 
@@ -28,11 +28,11 @@ pub fn held_reply(l: LookedUp, required: Rights) -> Reply
 {
     let got = l.got;
     match got {
-        Got::Entry(entry) => {
+        Some(entry) => {
             let rights = entry.rights;
             replied(Answer::Done, rights.contains(required) as u64, l.visits)
         }
-        Got::Nothing => replied(Answer::Done, 0, l.visits),
+        None => replied(Answer::Done, 0, l.visits),
     }
 }
 
@@ -69,17 +69,17 @@ pub fn entry_reply(l: LookedUp) -> EntryReply
 {
     let got = l.got;
     match got {
-        Got::Entry(entry) => whole_entry(entry, l.visits),
-        Got::Nothing => no_entry(Answer::NotFound, l.visits),
+        Some(entry) => whole_entry(entry, l.visits),
+        None => no_entry(Answer::NotFound, l.visits),
     }
 }
 
-pub fn nth_reply(nth: Nth) -> EntryReply
+pub fn nth_reply(nth: Option<CapabilityEntry>) -> EntryReply
     ensures { result ≡ nth_reply nth }
 {
     match nth {
-        Nth::Entry(entry) => whole_entry(entry, 0),
-        Nth::Past => no_entry(Answer::NotFound, 0),
+        Some(entry) => whole_entry(entry, 0),
+        None => no_entry(Answer::NotFound, 0),
     }
 }
 

@@ -17,7 +17,7 @@ use space::{Insertion, LookedUp};
 use steps::holders::{hold, hold_all, release, release_all};
 use steps::replies::replied;
 use steps::{Copied, Facts, Reply};
-use table::{CapabilityEntry, Got, Nth};
+use table::CapabilityEntry;
 use token::{CapabilityToken, Rights};
 use world::Numbers;
 use world::head::REGISTERED;
@@ -59,7 +59,7 @@ pub fn get_entry(mem: &[u64], d: Numbers, s: usize, id: u64) -> LookedUp
     space::get_entry(&mem[start..end], id)
 }
 
-pub fn nth_entry(mem: &[u64], d: Numbers, s: usize, n: usize) -> Nth
+pub fn nth_entry(mem: &[u64], d: Numbers, s: usize, n: usize) -> Option<CapabilityEntry>
     requires { Ready d mem.now × (s < d.spaces) }
     ensures { result
         ≡ nth_of (live_entries (slot_words (space_of d s mem.now)) 0 (table_of (space_of d s mem.now)).slots) n }
@@ -142,11 +142,11 @@ pub fn remove(mem: &mut [u64], d: Numbers, s: usize, token: CapabilityToken) -> 
     let r = remove_entry(mem, d, s, token);
     let got = r.got;
     match got {
-        Got::Entry(_) => {
+        Some(_) => {
             release(mem, d, n, token.id());
             r
         }
-        Got::Nothing => r,
+        None => r,
     }
 }
 

@@ -1,5 +1,5 @@
 -- Entries come and go, and their holders are counted: the ways through the steps of `space_steps` that do it.
-use Rattle.std.proofs.Common.{◌≡◌, ℕ, true, false, eqb, ◌≢◌, List, length, sym, refl, ap, ◌∙◌, eq-eqb, ne_eqb}
+use Rattle.std.proofs.Common.{◌≡◌, ℕ, true, false, eqb, ◌≢◌, List, length, sym, refl, ap, ◌∙◌, eq-eqb, ne_eqb, Option}
 use Rattle.answers.specs.Number.{number_of}
 use Rattle.answers.specs.declared.Answer.{Answer}
 use Rattle.base.specs.Part.{on_part_same}
@@ -10,7 +10,6 @@ use Rattle.space.specs.Lookup.{looked_up}
 use Rattle.space.proofs.laws.Insert.{refused_changes_nothing}
 use Rattle.table.specs.Slots.{id_of}
 use Rattle.table.specs.declared.CapabilityEntry.{CapabilityEntry}
-use Rattle.table.specs.declared.Got.{Got}
 use Rattle.token.specs.Token.{id_of as token_id}
 use Rattle.world.specs.Numbers.{registered_of}
 use Rattle.world.specs.Regions.{space, start_of, size_of, on_region}
@@ -61,7 +60,7 @@ module _ (d : Numbers) (s : ℕ) (mem : List ℕ) where
       ∙ on_part_same (start_of d (space s)) (size_of d (space s)) (λ sp. (insert_out sp e).words) mem
       (refused_changes_nothing (space_of d s mem) e (λ done. some (ap number_of done))).0
 
-  module _ (token : ℕ) (between : List ℕ) (got : Got) (left : between ≡ on_region d (space s) (λ sp. removed_token sp token) mem)
+  module _ (token : ℕ) (between : List ℕ) (got : Option CapabilityEntry) (left : between ≡ on_region d (space s) (λ sp. removed_token sp token) mem)
       (told : got ≡ (looked_up (space_of d s mem) token).got)
     where
       pub removed_as_found : is_entry got ≡ true → (id : ℕ) → id ≡ token_id token → (after : List ℕ)

@@ -1,5 +1,5 @@
 -- What each step leaves of the memory, and what it answers where that is not the structure's own answer.
-use Rattle.std.specs.Prelude.{◌≡◌, ℕ, suc, ◌+◌, ◌-◌, ◌%◌, ◌^◌, Bool, true, false, List, length, set, ◌==◌, nat_lt, slice_index, slice_set}
+use Rattle.std.specs.Prelude.{◌≡◌, ℕ, suc, ◌+◌, ◌-◌, ◌%◌, ◌^◌, Bool, true, false, List, length, set, ◌==◌, nat_lt, slice_index, slice_set, Option, None, Some}
 use Rattle.answers.specs.Number.{number_of}
 use Rattle.base.specs.Choose.{pick}
 use Rattle.registry.specs.Holders.{place_of, held, released, held_all, released_all}
@@ -13,8 +13,6 @@ use Rattle.space.specs.Lookup.{looked_up, counted}
 use Rattle.space.specs.Words.{quota_of, generation_of, hits_of, misses_of, table_of}
 use Rattle.table.specs.Slots.{id_of}
 use Rattle.table.specs.declared.CapabilityEntry.{CapabilityEntry}
-use Rattle.table.specs.declared.Got.{Got}
-use Rattle.table.specs.declared.Got.TheVariants.{Entry, Nothing}
 use Rattle.token.specs.Token.{id_of as token_id}
 use Rattle.world.specs.Numbers.{next_word, registered_word, recycled_word, next_of, registered_of, recycled_of}
 use Rattle.world.specs.Regions.{space, registry, view, on_region}
@@ -81,9 +79,9 @@ insert_step d s e mem =
 abbrev pub insert_reply : ℕ → InsertOut → Reply
 insert_reply value o = replied o.answer (pick (number_of o.answer == 0) value 0) o.moved
 
-abbrev pub is_entry : Got → Bool
-is_entry (Entry e) = true
-is_entry Nothing = false
+abbrev pub is_entry : Option CapabilityEntry → Bool
+is_entry (Some e) = true
+is_entry None = false
 
 unfoldable pub remove_step : Numbers → ℕ → ℕ → List ℕ → List ℕ
 remove_step d s token mem =

@@ -1,5 +1,5 @@
 -- The turns of the loops that walk: where a walk stands after one step more, and what is left to count at each step.
-use Rattle.std.proofs.Common.{◌≡◌, refl, sym, ap, ◌∙◌, List, Bool, true, false, not, ℕ, ◌+◌, ◌-◌, ◌%◌, ◌<◌, ◌≤◌, add-zero, add_comm, mod-eq_of_lt, arith, rules, ne_eqb, lt-ltb, le-ltb, eqb}
+use Rattle.std.proofs.Common.{◌≡◌, refl, sym, ap, ◌∙◌, List, Bool, true, false, not, ℕ, ◌+◌, ◌-◌, ◌%◌, ◌<◌, ◌≤◌, add-zero, add_comm, mod-eq_of_lt, arith, rules, ne_eqb, lt-ltb, le-ltb, eqb, None, Some}
 use Rattle.std.proofs.Math.Decide.{dec_lt}
 use Rattle.std.proofs.Math.Logic.{by_cases}
 use Rattle.std.proofs.Math.Nat.{sub-zero, mod-add-mod}
@@ -8,7 +8,6 @@ use Rattle.base.specs.Below.{first_from, first}
 use Rattle.base.specs.FirstLaws.{first_is, first_after, first_up_start, first_up_found, first_up_next, first_up_done}
 use Rattle.table.specs.Slots.{kind_at, is_live, id_at}
 use Rattle.table.specs.Walk.{home_of, walk, stops, steps_to_stop, ended, search, search_from, steps_to_free, free_for}
-use Rattle.table.specs.declared.Found.TheVariants.{At, Absent}
 use Rattle.table.specs.declared.Search.{Search}
 use Rattle.table.proofs.laws.Walks.{walk_home, walk_next}
 
@@ -48,7 +47,7 @@ ended_later ws n t i =
     (λ l. rw (lt-ltb t n l, lt-ltb (t + 1) (n + 1) (omega arith)))
     (λ g. rw (le-ltb t n (omega arith), le-ltb (t + 1) (n + 1) (omega arith)))
 
-from_none : (ws : List ℕ) (slots id i : ℕ) → search_from ws slots id i 0 ≡ record { found = Absent; visits = 0 }
+from_none : (ws : List ℕ) (slots id i : ℕ) → search_from ws slots id i 0 ≡ record { found = None; visits = 0 }
 unfolding search_from first first_from
 from_none ws slots id i = refl
 
@@ -57,7 +56,7 @@ module _ (ws : List ℕ) (slots id i n : ℕ) (l : i < slots) where
   here : (i + 0) % slots ≡ i
   here = rw add-zero (mod-eq_of_lt l)
 
-  from_stops : stops ws id i ≡ true → search_from ws slots id i (n + 1) ≡ record { found = pick (is_live ws i) (At i) Absent; visits = 1 }
+  from_stops : stops ws id i ≡ true → search_from ws slots id i (n + 1) ≡ record { found = pick (is_live ws i) (Some i) None; visits = 1 }
   unfolding search_from
   from_stops s =
       let none = first_is (λ t. stops ws id ((i + t) % slots)) (n + 1) 0 (omega arith) (rw here s) (λ k u. absurd (omega arith)) in
@@ -79,17 +78,17 @@ module _ (ws : List ℕ) (slots id n passed i : ℕ) (s : Search) (left : s ≡ 
       one_more : n - (passed + 1) + 1 ≡ n - passed
       one_more = omega arith
 
-      stopped : stops ws id i ≡ true → record { found = pick (eqb k 2) (At i) Absent; visits = passed + 1 } ≡ s
+      stopped : stops ws id i ≡ true → record { found = pick (eqb k 2) (Some i) None; visits = passed + 1 } ≡ s
       unfolding later
       stopped h = sym (left ∙ rw (← one_more, from_stops ws slots id i (n - (passed + 1)) l h, ← kind, add_comm 1 passed))
 
-      pub find_found : (b : Bool) → b ≡ both (eqb k 2) (eqb (id_at ws i) id) → b ≡ true → record { found = At i; visits = passed + 1 } ≡ s
+      pub find_found : (b : Bool) → b ≡ both (eqb k 2) (eqb (id_at ws i) id) → b ≡ true → record { found = Some i; visits = passed + 1 } ≡ s
       find_found b e yes' =
           let two = both_left (eqb k 2) (eqb (id_at ws i) id) (sym e ∙ yes') in
           let same = both_right (eqb k 2) (eqb (id_at ws i) id) (sym e ∙ yes') in
           rw two at (stopped (rw (← kind, two) same))
 
-      pub find_empty : k ≡ 0 → record { found = Absent; visits = passed + 1 } ≡ s
+      pub find_empty : k ≡ 0 → record { found = None; visits = passed + 1 } ≡ s
       find_empty none = rw none at (stopped (rw (← kind, none)))
 
       pub find_goes :
@@ -99,7 +98,7 @@ module _ (ws : List ℕ) (slots id n passed i : ℕ) (s : Search) (left : s ≡ 
           let passes = passed_on ws id i k b kind e no' some in
           left ∙ rw (← one_more, from_passes ws slots id i (n - (passed + 1)) l passes, ← next, later_later)
 
-    pub find_ends : passed ≤ n → n ≤ passed → record { found = Absent; visits = n } ≡ s
+    pub find_ends : passed ≤ n → n ≤ passed → record { found = None; visits = n } ≡ s
     unfolding later
     find_ends u past =
         let none : n - passed ≡ 0 = omega arith in
@@ -117,7 +116,7 @@ from_home : (ws : List ℕ) (slots id : ℕ) → search ws slots id ≡ search_f
 unfolding search steps_to_stop walk search_from
 from_home ws slots id = refl
 
-pub find_none : (ws : List ℕ) (slots id : ℕ) → slots ≡ 0 → record { found = Absent; visits = 0 } ≡ search ws slots id
+pub find_none : (ws : List ℕ) (slots id : ℕ) → slots ≡ 0 → record { found = None; visits = 0 } ≡ search ws slots id
 find_none ws slots id e = rw (e, from_home, from_none)
 
 module _ (ws : List ℕ) (slots id i : ℕ) (home : i ≡ home_of id slots) where
@@ -126,10 +125,10 @@ module _ (ws : List ℕ) (slots id i : ℕ) (home : i ≡ home_of id slots) wher
 
   module _ (l : i < slots) (k : ℕ) (kind : k ≡ kind_at ws i) where
     pub home_found : (b : Bool) → b ≡ both (eqb k 2) (eqb (id_at ws i) id) → b ≡ true
-        → record { found = At i; visits = 1 } ≡ search ws slots id
+        → record { found = Some i; visits = 1 } ≡ search ws slots id
     home_found = find_found ws slots id slots 0 i (search ws slots id) home_starts l (omega arith) k kind
 
-    pub home_empty : k ≡ 0 → record { found = Absent; visits = 1 } ≡ search ws slots id
+    pub home_empty : k ≡ 0 → record { found = None; visits = 1 } ≡ search ws slots id
     home_empty = find_empty ws slots id slots 0 i (search ws slots id) home_starts l (omega arith) k kind
 
     pub home_goes :

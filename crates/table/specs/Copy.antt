@@ -1,14 +1,12 @@
 -- The n-th live entry, and copying a table into another.
-use Rattle.std.specs.Prelude.{List, [], ◌∷◌, ℕ, zero, suc, ◌+◌}
+use Rattle.std.specs.Prelude.{List, [], ◌∷◌, ℕ, zero, suc, ◌+◌, Option, None, Some}
 use Rattle.table.specs.Insert.{Table, insert_new, none, live_entries}
 use Rattle.table.specs.declared.CapabilityEntry.{CapabilityEntry}
-use Rattle.table.specs.declared.Nth.{Nth}
-use Rattle.table.specs.declared.Nth.TheVariants.{Entry, Past}
 
 -- The n-th of the entries, n from 0, or past the last.
-unfoldable pub nth_of : List CapabilityEntry → ℕ → Nth
-nth_of [] n = Past
-nth_of (e ∷ es) zero = Entry e
+unfoldable pub nth_of : List CapabilityEntry → ℕ → Option CapabilityEntry
+nth_of [] n = None
+nth_of (e ∷ es) zero = Some e
 nth_of (e ∷ es) (suc n) = nth_of es n
 
 -- The copy of an entry: the same capability, uses zeroed.

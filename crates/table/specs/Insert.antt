@@ -1,5 +1,5 @@
 -- What changes a table: placing, rebuilding, inserting, removing.
-use Rattle.std.specs.Prelude.{Bool, List, [], ◌∷◌, ℕ, zero, suc, ◌+◌, ◌-◌, ◌*◌, ◌<◌, ◌≤◌, max, ltb, length, set}
+use Rattle.std.specs.Prelude.{Bool, List, [], ◌∷◌, ℕ, zero, suc, ◌+◌, ◌-◌, ◌*◌, ◌<◌, ◌≤◌, max, ltb, length, set, Option, None, Some}
 use Rattle.base.specs.Choose.{pick}
 use Rattle.base.specs.Arith.{next_power}
 use Rattle.base.specs.Below.{one}
@@ -7,8 +7,6 @@ use Rattle.table.specs.Slots.{is_live, is_removed, id_of, entry_at, put_entry, p
 use Rattle.table.specs.Walk.{free_for}
 use Rattle.table.specs.declared.CapabilityEntry.{CapabilityEntry}
 use Rattle.table.specs.declared.CapTable.{CapTable}
-use Rattle.table.specs.declared.Got.{Got}
-use Rattle.table.specs.declared.Got.TheVariants.{Entry, Nothing}
 use Rattle.table.specs.declared.Inserted.{Inserted}
 
 -- A table as a call leaves it, with the entries that the call moved.
@@ -133,5 +131,5 @@ removed_at ws t i =
     (record { words = ws; counts = t; moved = 0 })
 
 -- What leaves: the entry of slot i, or nothing.
-abbrev pub held_at : List ℕ → ℕ → Got
-held_at ws i = pick (is_live ws i) (Entry (entry_at ws i)) Nothing
+abbrev pub held_at : List ℕ → ℕ → Option CapabilityEntry
+held_at ws i = pick (is_live ws i) (Some (entry_at ws i)) None

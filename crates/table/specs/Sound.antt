@@ -1,6 +1,6 @@
 -- Document 01, "Sound memory", what it says of one table: a rule a field, in its order and words; the tests below, in the same order.
 -- One test serves `differ` and `met`. `most` is M, the largest quota.
-use Rattle.std.specs.Prelude.{Bool, true, false, ◌≡◌, List, ℕ, ◌+◌, ◌*◌, ◌^◌, ◌≤◌, ◌<◌, eqb, leb}
+use Rattle.std.specs.Prelude.{Bool, true, false, ◌≡◌, List, ℕ, ◌+◌, ◌*◌, ◌^◌, ◌≤◌, ◌<◌, eqb, leb, Option, None, Some}
 use Rattle.base.specs.Arith.{next_power}
 use Rattle.base.specs.Below.{all, sum, one}
 use Rattle.base.specs.Choose.{pick, both}
@@ -9,8 +9,6 @@ use Rattle.table.specs.Slots.{kind_at, is_empty, is_removed, is_live, id_at}
 use Rattle.table.specs.Walk.{walk, search}
 use Rattle.table.specs.Insert.{slots_for}
 use Rattle.table.specs.declared.CapTable.{CapTable}
-use Rattle.table.specs.declared.Found.{Found}
-use Rattle.table.specs.declared.Found.TheVariants.{At, Absent}
 
 -- 0 slots or a power of two from 8 to the larger of 8 and the next power of two at or above 2M.
 pub data Capacity (most slots : ℕ) : Type 0 where
@@ -61,9 +59,9 @@ abbrev pub most_test : ℕ → CapTable → Bool
 most_test most t = leb t.full most
 
 -- Ids differ and each entry is met on its own walk where a search of the id of each live slot ends at that slot.
-abbrev pub ends_at : Found → ℕ → Bool
-ends_at (At i) j = eqb i j
-ends_at Absent j = false
+abbrev pub ends_at : Option ℕ → ℕ → Bool
+ends_at (Some i) j = eqb i j
+ends_at None j = false
 
 abbrev pub ends_here : List ℕ → ℕ → ℕ → Bool
 ends_here ws slots i = ends_at (search ws slots (id_at ws i)).found i

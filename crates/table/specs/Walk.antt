@@ -1,12 +1,9 @@
 -- Walks over the slots, and the two that end somewhere: the search for an id and the walk for a free place.
-use Rattle.std.specs.Prelude.{Bool, not, List, ℕ, ◌+◌, ◌*◌, ◌/◌, ◌%◌, ◌^◌, eqb, ltb}
+use Rattle.std.specs.Prelude.{Bool, not, List, ℕ, ◌+◌, ◌*◌, ◌/◌, ◌%◌, ◌^◌, eqb, ltb, Option, None, Some}
 use Rattle.base.specs.Choose.{pick}
 use Rattle.base.specs.Below.{first}
 use Rattle.table.specs.Slots.{is_empty, is_live, id_at, entry_at}
-use Rattle.table.specs.declared.Found.{Found}
-use Rattle.table.specs.declared.Found.TheVariants.{At, Absent}
-use Rattle.table.specs.declared.Got.{Got}
-use Rattle.table.specs.declared.Got.TheVariants.{Entry, Nothing}
+use Rattle.table.specs.declared.CapabilityEntry.{CapabilityEntry}
 use Rattle.table.specs.declared.Search.{Search}
 
 -- Home: id times 0x9E3779B97F4A7C15, keeping 64 bits, shifted right 32, remainder by the slot count.
@@ -28,7 +25,7 @@ steps_to_stop ws slots id = first (λ t. stops ws id (walk id slots t)) slots
 -- Where a search over n slots ended, and its visits: it takes t steps to stop, at slot i, or does not stop.
 abbrev pub ended : List ℕ → ℕ → ℕ → ℕ → Search
 ended ws n t i =
-    pick (ltb t n) (record { found = pick (is_live ws i) (At i) Absent; visits = t + 1 }) (record { found = Absent; visits = t })
+    pick (ltb t n) (record { found = pick (is_live ws i) (Some i) None; visits = t + 1 }) (record { found = None; visits = t })
 
 -- The search. On 0 slots it visits none.
 unfoldable pub search : List ℕ → ℕ → ℕ → Search
@@ -39,11 +36,11 @@ unfoldable pub search_from : List ℕ → ℕ → ℕ → ℕ → ℕ → Search
 search_from ws slots id i n = let t = first (λ t. stops ws id ((i + t) % slots)) n in ended ws n t ((i + t) % slots)
 
 -- The entry of the slot where the search ended.
-abbrev pub got_at : List ℕ → Found → Got
-got_at ws (At i) = Entry (entry_at ws i)
-got_at ws Absent = Nothing
+abbrev pub got_at : List ℕ → Option ℕ → Option CapabilityEntry
+got_at ws (Some i) = Some (entry_at ws i)
+got_at ws None = None
 
-unfoldable pub got : List ℕ → ℕ → ℕ → Got
+unfoldable pub got : List ℕ → ℕ → ℕ → Option CapabilityEntry
 got ws slots id = got_at ws (search ws slots id).found
 
 -- Place at the first slot not live.

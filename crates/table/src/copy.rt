@@ -5,10 +5,10 @@ ghost use Rattle.table.specs.Copy.{nth_of, insert_all};
 
 use super::insert::{crowded, make_room, place};
 use super::words::{entry_at, slot_at};
-use super::{CapTable, CapabilityEntry, Inserted, Nth, Slot};
+use super::{CapTable, CapabilityEntry, Inserted, Slot};
 
 // The n-th live entry in slot order, n from 0.
-pub fn nth_entry(words: &[u64], slots: usize, n: usize) -> Nth
+pub fn nth_entry(words: &[u64], slots: usize, n: usize) -> Option<CapabilityEntry>
     requires { (slots ≤ 512) × (4 * slots ≤ length words.now) }
     ensures { result ≡ nth_of (live_entries words.now 0 slots) n }
 {
@@ -20,12 +20,12 @@ pub fn nth_entry(words: &[u64], slots: usize, n: usize) -> Nth
             continue;
         };
         if past == 0 {
-            return Nth::Entry(entry);
+            return Some(entry);
         }
         past -= 1;
         i += 1;
     }
-    Nth::Past
+    None
 }
 
 // One entry of a copy: inserted with its uses zeroed, its moves added.

@@ -18,7 +18,7 @@ pub use walk::{find, get};
 pub use words::{FULL, REMOVED, entry_at, id_at, kind_at, slot_at};
 
 // A single capability entry.
-#[derive(Clone, Copy)]
+#[derive(Clone, Copy, PartialEq, Eq, Debug)]
 pub struct CapabilityEntry {
     pub capability: CapabilityToken,
     pub object: u64,
@@ -28,7 +28,7 @@ pub struct CapabilityEntry {
 }
 
 // One slot, with its entry where it holds one. A walk goes on past a removed entry's mark.
-#[derive(Clone, Copy)]
+#[derive(Clone, Copy, PartialEq, Eq, Debug)]
 pub enum Slot {
     Empty,
     Tombstone,
@@ -36,51 +36,30 @@ pub enum Slot {
 }
 
 // What a table is beside its slots: how many there are, how many are full, how many hold a removed entry's mark.
-#[derive(Clone, Copy)]
+#[derive(Clone, Copy, PartialEq, Eq, Debug)]
 pub struct CapTable {
     pub slots: usize,
     pub full: usize,
     pub tombstones: usize,
 }
 
-// Where a search ended.
-#[derive(Clone, Copy)]
-pub enum Found {
-    At(usize),
-    Absent,
-}
-
-// The entry of an id, if the table holds one.
-#[derive(Clone, Copy)]
-pub enum Got {
-    Entry(CapabilityEntry),
-    Nothing,
-}
-
-// The n-th live entry, or past the last.
-#[derive(Clone, Copy)]
-pub enum Nth {
-    Entry(CapabilityEntry),
-    Past,
-}
-
-// A search's end and the slots that it visited.
-#[derive(Clone, Copy)]
+// The slot where a search found its id, if it did, and the slots that it visited.
+#[derive(Clone, Copy, PartialEq, Eq, Debug)]
 pub struct Search {
-    pub found: Found,
+    pub found: Option<usize>,
     pub visits: usize,
 }
 
 // The table after an insert or a copy, and the entries that its rebuilds moved.
-#[derive(Clone, Copy)]
+#[derive(Clone, Copy, PartialEq, Eq, Debug)]
 pub struct Inserted {
     pub table: CapTable,
     pub moved: usize,
 }
 
 // The table after a removal, and what left.
-#[derive(Clone, Copy)]
+#[derive(Clone, Copy, PartialEq, Eq, Debug)]
 pub struct Removed {
     pub table: CapTable,
-    pub left: Got,
+    pub left: Option<CapabilityEntry>,
 }

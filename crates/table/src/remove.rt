@@ -3,7 +3,7 @@ ghost use Rattle.std.specs.Prelude.{◌≡◌, ◌+◌, ◌*◌, ◌≤◌, ◌<
 ghost use Rattle.table.specs.Insert.{removed_at, held_at};
 
 use super::words::{put_mark, slot_at};
-use super::{CapTable, Got, Removed, Slot};
+use super::{CapTable, Removed, Slot};
 
 // The entry of slot i leaves, if there is one; a table that held no other gives its slots back.
 pub fn remove_at(words: &mut [u64], t: CapTable, i: usize) -> Removed
@@ -14,7 +14,7 @@ pub fn remove_at(words: &mut [u64], t: CapTable, i: usize) -> Removed
     let Slot::Full(entry) = slot_at(words, i) else {
         return Removed {
             table: t,
-            left: Got::Nothing,
+            left: None,
         };
     };
     put_mark(words, i);
@@ -26,7 +26,7 @@ pub fn remove_at(words: &mut [u64], t: CapTable, i: usize) -> Removed
         };
         return Removed {
             table,
-            left: Got::Entry(entry),
+            left: Some(entry),
         };
     }
     let table = CapTable {
@@ -36,6 +36,6 @@ pub fn remove_at(words: &mut [u64], t: CapTable, i: usize) -> Removed
     };
     Removed {
         table,
-        left: Got::Entry(entry),
+        left: Some(entry),
     }
 }

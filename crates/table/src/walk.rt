@@ -5,7 +5,7 @@ ghost use Rattle.table.specs.Slots.{id_at};
 ghost use Rattle.table.specs.Walk.{home_of, search, search_from, got, free_for};
 
 use super::words::{EMPTY, FULL, entry_at, id_at, kind_at};
-use super::{Found, Got, Search};
+use super::{CapabilityEntry, Search};
 
 // Fibonacci hashing: ids come one after the other, so it spreads them. Slot counts are powers of two, where the remainder is a mask.
 pub fn home(id: u64, slots: usize) -> usize
@@ -55,13 +55,13 @@ fn find_from(words: &[u64], slots: usize, id: u64, from: usize, n: usize) -> Sea
         let kind = kind_at(words, i);
         if has_id(words, i, kind, id) {
             return Search {
-                found: Found::At(i),
+                found: Some(i),
                 visits: passed + 1,
             };
         }
         if kind == EMPTY {
             return Search {
-                found: Found::Absent,
+                found: None,
                 visits: passed + 1,
             };
         }
@@ -69,7 +69,7 @@ fn find_from(words: &[u64], slots: usize, id: u64, from: usize, n: usize) -> Sea
         passed += 1;
     }
     Search {
-        found: Found::Absent,
+        found: None,
         visits: n,
     }
 }
@@ -81,7 +81,7 @@ pub fn find(words: &[u64], slots: usize, id: u64) -> Search
 {
     if slots == 0 {
         return Search {
-            found: Found::Absent,
+            found: None,
             visits: 0,
         };
     }
@@ -89,13 +89,13 @@ pub fn find(words: &[u64], slots: usize, id: u64) -> Search
     let kind = kind_at(words, home);
     if has_id(words, home, kind, id) {
         return Search {
-            found: Found::At(home),
+            found: Some(home),
             visits: 1,
         };
     }
     if kind == EMPTY {
         return Search {
-            found: Found::Absent,
+            found: None,
             visits: 1,
         };
     }
@@ -108,14 +108,14 @@ pub fn find(words: &[u64], slots: usize, id: u64) -> Search
 }
 
 // The entry of the id, where a search finds it.
-pub fn get(words: &[u64], slots: usize, id: u64) -> Got
+pub fn get(words: &[u64], slots: usize, id: u64) -> Option<CapabilityEntry>
     requires { (slots ≤ 512) × (4 * slots ≤ length words.now) }
     ensures { result ≡ got words.now slots id }
 {
     let found = find(words, slots, id).found;
     match found {
-        Found::At(i) => Got::Entry(entry_at(words, i)),
-        Found::Absent => Got::Nothing,
+        Some(i) => Some(entry_at(words, i)),
+        None => None,
     }
 }
 

@@ -9,7 +9,7 @@ ghost use Rattle.table.specs.Insert.{slots_for};
 ghost use Rattle.table.specs.Sound.{ends_at, ends_here, coded_at, coded_test, capacity_test, agree_test, room_test, unused_test, most_test, found_test, live_slots, sound_test};
 
 use base::distinct::wide;
-use table::{CapTable, FULL, Found, REMOVED, find, id_at, kind_at, slots_for};
+use table::{CapTable, FULL, REMOVED, find, id_at, kind_at, slots_for};
 
 // 0 slots or a power of two from 8 to the most that there can be.
 fn is_capacity(slots: usize, most: usize) -> bool
@@ -48,12 +48,12 @@ fn counts_fit(t: CapTable, most: usize) -> bool
     true
 }
 
-fn ends_at(found: Found, i: usize) -> bool
+fn ends_at(found: Option<usize>, i: usize) -> bool
     ensures { result ≡ ends_at found i }
 {
     match found {
-        Found::At(j) => j == i,
-        Found::Absent => false,
+        Some(j) => j == i,
+        None => false,
     }
 }
 

@@ -1,14 +1,8 @@
 -- The table's records as numbers.
-use Rattle.std.specs.Prelude.{Bool, true, false, List, ℕ, ◌-◌, ◌^◌, get_or, set}
+use Rattle.std.specs.Prelude.{Bool, true, false, List, ℕ, ◌-◌, ◌^◌, get_or, set, Option, None, Some}
 use Rattle.table.specs.Insert.{Table}
 use Rattle.table.specs.declared.CapTable.{CapTable}
 use Rattle.table.specs.declared.CapabilityEntry.{CapabilityEntry}
-use Rattle.table.specs.declared.Found.{Found}
-use Rattle.table.specs.declared.Found.TheVariants.{At, Absent}
-use Rattle.table.specs.declared.Got.{Got}
-use Rattle.table.specs.declared.Got.TheVariants.{Nothing}
-use Rattle.table.specs.declared.Nth.{Nth}
-use Rattle.table.specs.declared.Nth.TheVariants.{Past}
 use Rattle.table.specs.declared.Search.{Search}
 use Rattle.table_probe.specs.declared.Ended.{Ended}
 
@@ -44,9 +38,9 @@ unfoldable pub entry_words : List ℕ → CapabilityEntry → List ℕ
 entry_words out e = set (set (set (set out 0 e.capability.0) 1 e.object) 2 e.uses) 3 e.rights.0
 
 -- Where a search ended; all ones where the id is absent.
-abbrev pub place : Found → ℕ
-place (At i) = i
-place Absent = 2 ^ 64 - 1
+abbrev pub place : Option ℕ → ℕ
+place (Some i) = i
+place None = 2 ^ 64 - 1
 
 abbrev pub ended : Search → Ended
 ended s = record { at = place s.found; visits = s.visits }
@@ -59,10 +53,10 @@ pub record EntryOut : Type 0 where
 abbrev pub answers : Bool → List ℕ → EntryOut
 answers there entry = record { there = there; entry = entry }
 
-abbrev pub got_words : List ℕ → Got → EntryOut
-got_words out (Got.Entry e) = answers true (entry_words out e)
-got_words out Nothing = answers false out
+abbrev pub got_words : List ℕ → Option CapabilityEntry → EntryOut
+got_words out (Some e) = answers true (entry_words out e)
+got_words out None = answers false out
 
-abbrev pub nth_words : List ℕ → Nth → EntryOut
-nth_words out (Nth.Entry e) = answers true (entry_words out e)
-nth_words out Past = answers false out
+abbrev pub nth_words : List ℕ → Option CapabilityEntry → EntryOut
+nth_words out (Some e) = answers true (entry_words out e)
+nth_words out None = answers false out

@@ -10,10 +10,7 @@ ghost use Rattle.table.specs.Copy.{nth_of, insert_all};
 ghost use Rattle.table.specs.Sound.{sound_test};
 ghost use Rattle.table_probe.specs.Numbers.{counts_of, keeps, left, leaves, entry_of, entry_words, ended, answers, got_words, nth_words};
 
-use table::{
-    CapTable, CapabilityEntry, Found, Got, Nth, copy_from, find, gather, get, insert_new,
-    nth_entry, remove_at,
-};
+use table::{CapTable, CapabilityEntry, copy_from, find, gather, get, insert_new, nth_entry, remove_at};
 use table_look::is_sound;
 use token::{CapabilityToken, Rights};
 
@@ -56,15 +53,15 @@ fn put(entry: CapabilityEntry, out: &mut [u64; 4])
 }
 
 // The entry, if there is one, over the four words.
-fn put_got(found: Got, out: &mut [u64; 4]) -> bool
+fn put_got(found: Option<CapabilityEntry>, out: &mut [u64; 4]) -> bool
     ensures { answers result out.new ≡ got_words out.old found }
 {
     match found {
-        Got::Entry(entry) => {
+        Some(entry) => {
             put(entry, out);
             true
         }
-        Got::Nothing => false,
+        None => false,
     }
 }
 
@@ -76,11 +73,11 @@ pub extern "C" fn table_probe_find(words: &[u64], slots: usize, id: u64) -> Ende
     let s = find(words, slots, id);
     let found = s.found;
     match found {
-        Found::At(i) => Ended {
+        Some(i) => Ended {
             at: i,
             visits: s.visits,
         },
-        Found::Absent => Ended {
+        None => Ended {
             at: 0xFFFF_FFFF_FFFF_FFFF,
             visits: s.visits,
         },
@@ -106,11 +103,11 @@ pub extern "C" fn table_probe_nth_entry(
     ensures { answers result out.new ≡ nth_words out.old (nth_of (live_entries words.now 0 slots) n) }
 {
     match nth_entry(words, slots, n) {
-        Nth::Entry(entry) => {
+        Some(entry) => {
             put(entry, out);
             true
         }
-        Nth::Past => false,
+        None => false,
     }
 }
 

@@ -1,6 +1,6 @@
 -- What each change of a space pays for its moves: an accepted entry pays 3, a copy 3 for each of its entries, and these cover the moves and
 -- what the table's potential rises by; no other change raises it.
-use Rattle.std.proofs.Common.{List, ◌≡◌, refl, ap, ℕ, ◌+◌, ◌*◌, ◌≤◌, arith, eqb, length}
+use Rattle.std.proofs.Common.{List, ◌≡◌, refl, ap, ℕ, ◌+◌, ◌*◌, ◌≤◌, arith, eqb, length, Option, None, Some}
 use Rattle.answers.specs.Number.{number_of}
 use Rattle.base.specs.Below.{one}
 use Rattle.space.specs.Change.{InsertOut, insert_out, removed_found, removed_token, cleared, next_generation}
@@ -15,8 +15,6 @@ use Rattle.space.proofs.laws.Lookup.{exactly_at}
 use Rattle.space.proofs.laws.View.{View, view_hit, view_miss, view_inserted, view_removed, view_cleared, view_next, view_copied}
 use Rattle.table.specs.Insert.{live_entries}
 use Rattle.table.specs.declared.CapabilityEntry.{CapabilityEntry}
-use Rattle.table.specs.declared.Found.{Found}
-use Rattle.table.specs.declared.Found.TheVariants.{At, Absent}
 use Rattle.table.proofs.laws.Copy.{copy_pays}
 use Rattle.table.proofs.laws.Exact.{search_at}
 use Rattle.table.proofs.laws.LiveEntries.{live_count}
@@ -34,9 +32,9 @@ module _ (most : ℕ) (sp : List ℕ) (s : SpaceOf most sp) where
   unfolding counted
   lookup_paid token = go (exactly sp token)
     where
-      go : (f : Found) → potential_of (counted_at sp f) ≡ potential_of sp
-      go (At i) = ap shown (view_hit sp (fits most sp s) i)
-      go Absent = ap shown (view_miss sp (fits most sp s))
+      go : (f : Option ℕ) → potential_of (counted_at sp f) ≡ potential_of sp
+      go (Some i) = ap shown (view_hit sp (fits most sp s) i)
+      go None = ap shown (view_miss sp (fits most sp s))
 
   pub next_paid : potential_of (next_generation sp) ≡ potential_of sp
   next_paid = ap shown (view_next sp (fits most sp s))
@@ -48,11 +46,11 @@ module _ (most : ℕ) (sp : List ℕ) (s : SpaceOf most sp) where
   unfolding removed_token
   remove_paid token = go (exactly sp token) refl
     where
-      go : (f : Found) → exactly sp token ≡ f → potential_of (removed_found sp f) ≤ potential_of sp
-      go (At i) e =
+      go : (f : Option ℕ) → exactly sp token ≡ f → potential_of (removed_found sp f) ≤ potential_of sp
+      go (Some i) e =
           let (l, live, same) = search_at _ _ _ i (exactly_at sp token i e).0 in
           omega (arith, ap shown (view_removed sp (fits most sp s) i), remove_pays (slot_words sp) (table_of sp) i live)
-      go Absent e = omega arith
+      go None e = omega arith
 
   pub insert_paid :
       (e : CapabilityEntry)

@@ -1,6 +1,6 @@
 -- The visits that a call answers are those of its search in the space: from the definitions of the calls, on a sound memory and a space
 -- that there is, whatever was found.
-use Rattle.std.proofs.Common.{List, ◌≡◌, refl, ap, ◌∙◌, ℕ, ◌^◌, ◌<◌, le-ltb, length}
+use Rattle.std.proofs.Common.{List, ◌≡◌, refl, ap, ◌∙◌, ℕ, ◌^◌, ◌<◌, le-ltb, length, Option, None, Some}
 use Rattle.std.proofs.lemmas.Bool.{lt-leb}
 use Rattle.answers.specs.declared.Answer.{Answer}
 use Rattle.answers.specs.declared.Answer.TheVariants.{BadField}
@@ -22,8 +22,6 @@ use Rattle.steps.specs.Replies.{Left}
 use Rattle.steps.specs.Steps.{space_of, lookup_step}
 use Rattle.steps.specs.declared.Reply.{Reply}
 use Rattle.table.specs.declared.CapabilityEntry.{CapabilityEntry}
-use Rattle.table.specs.declared.Got.{Got}
-use Rattle.table.specs.declared.Got.TheVariants.{Entry, Nothing}
 use Rattle.token.specs.Token.{id_of}
 use Rattle.world.specs.Numbers.{numbers_of}
 use Rattle.world.specs.Sound.{Sound}
@@ -33,23 +31,23 @@ use Rattle.history.specs.Walks.{seeking, in_lookup, in_lookup_entry, in_check_ri
 
 -- ---- whatever was found, the visits are answered
 
-found_visits : (value : CapabilityEntry → ℕ) (got : Got) (visits : ℕ) → (found_reply value got visits).count ≡ visits
-found_visits value (Entry e) visits = refl
-found_visits value Nothing visits = refl
+found_visits : (value : CapabilityEntry → ℕ) (got : Option CapabilityEntry) (visits : ℕ) → (found_reply value got visits).count ≡ visits
+found_visits value (Some e) visits = refl
+found_visits value None visits = refl
 
-held_visits : (required : ℕ) (got : Got) (visits : ℕ) → (held_reply required got visits).count ≡ visits
-held_visits required (Entry e) visits = refl
-held_visits required Nothing visits = refl
+held_visits : (required : ℕ) (got : Option CapabilityEntry) (visits : ℕ) → (held_reply required got visits).count ≡ visits
+held_visits required (Some e) visits = refl
+held_visits required None visits = refl
 
-entry_visits : (got : Got) (visits : ℕ) → (entry_reply got visits).visits ≡ visits
-entry_visits (Entry e) visits = refl
-entry_visits Nothing visits = refl
+entry_visits : (got : Option CapabilityEntry) (visits : ℕ) → (entry_reply got visits).visits ≡ visits
+entry_visits (Some e) visits = refl
+entry_visits None visits = refl
 
 abbrev Visits : ℕ → Left Reply → Type 0
 Visits visits out = out.reply.count ≡ visits
 
 revoking_visits :
-    (d : Numbers) (token time : ℕ) (listed mem : List ℕ) (got : Got) (visits : ℕ)
+    (d : Numbers) (token time : ℕ) (listed mem : List ℕ) (got : Option CapabilityEntry) (visits : ℕ)
     → Visits visits (revoking_held d token time listed mem got visits)
 revoking_visits d token time listed mem got visits =
     revoking_held_by_cases d token time listed mem (Visits visits) got visits (λ none. refl) (λ e is lacks. refl) (λ e is has. refl)

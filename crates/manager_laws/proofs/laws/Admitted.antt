@@ -1,6 +1,6 @@
 -- The entry of the id registered last goes into the space if the space accepts it; if not, the id leaves the registry again. A space
 -- accepts an entry under its quota, of an id that is not there yet (`Accepts`).
-use Rattle.std.proofs.Common.{List, ◌≢◌, ◌⊎◌, inl, inr, ◌≡◌, refl, ap, ℕ, ◌-◌, arith, eq-eqb, ne_eqb}
+use Rattle.std.proofs.Common.{List, ◌≢◌, ◌⊎◌, inl, inr, ◌≡◌, refl, ap, ℕ, ◌-◌, arith, eq-eqb, ne_eqb, None, Some}
 use Rattle.answers.specs.Number.{number_of}
 use Rattle.answers.specs.declared.Answer.TheVariants.{Done, OutOfMemory}
 use Rattle.space.specs.Change.{InsertOut, insert_out}
@@ -11,7 +11,6 @@ use Rattle.steps.specs.Steps.{space_of, new_entry, insert_step, unregister_step,
 use Rattle.steps.proofs.ChangingEntries.{refused_insert}
 use Rattle.table.specs.Slots.{id_of}
 use Rattle.table.specs.declared.CapabilityEntry.{CapabilityEntry}
-use Rattle.table.specs.declared.Found.TheVariants.{At, Absent}
 use Rattle.world.specs.Numbers.{registered_of}
 use Rattle.world.specs.declared.Numbers.{Numbers}
 use Rattle.manager_calls.specs.Admit.{admitted}
@@ -19,7 +18,7 @@ use Rattle.manager_calls.specs.Admit.{admitted}
 -- ---- whether the space takes the entry
 
 module _ (sp : List ℕ) (e : CapabilityEntry) where
-  found_not_absent : (i : ℕ) → (search_id sp (id_of e)).found ≡ At i → (search_id sp (id_of e)).found ≡ Absent → ⊥
+  found_not_absent : (i : ℕ) → (search_id sp (id_of e)).found ≡ Some i → (search_id sp (id_of e)).found ≡ None → ⊥
   found_not_absent i there absent = let z : ◌≡◌ {A = ℕ} 0 1 = cc in omega arith
 
   pub accepts_or_not : Accepts sp e ⊎ (¬ Accepts sp e)

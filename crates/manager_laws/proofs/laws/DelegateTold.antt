@@ -1,7 +1,7 @@
 -- When each answer of delegate is given: 26 exactly on memory that is not sound, 20 exactly on a sound one where either space number is S
 -- or more, and 1, 6, 10, 9, 3, 22, 4 and 0 exactly in their stated cases. And what each refusal leaves: its value is 0 and it changes
 -- nothing, except: a lookup stays counted; a collection stays done; 4 leaves the parent a list; an id that was taken is recycled.
-use Rattle.std.proofs.Common.{Bool, true, false, List, ◌↔◌, ◌≢◌, ◌⊎◌, inl, inr, ⊎_elim, ◌≡◌, refl, sym, ap, subst, ◌∙◌, ℕ, suc, ◌≤◌, ◌<◌, arith, eqb}
+use Rattle.std.proofs.Common.{Bool, true, false, List, ◌↔◌, ◌≢◌, ◌⊎◌, inl, inr, ⊎_elim, ◌≡◌, refl, sym, ap, subst, ◌∙◌, ℕ, suc, ◌≤◌, ◌<◌, arith, eqb, Option, None, Some}
 use Rattle.std.proofs.Math.Decide.{dec_lt}
 use Rattle.std.proofs.Math.Logic.{by_cases}
 use Rattle.answers.specs.Number.{number_of}
@@ -15,8 +15,6 @@ use Rattle.steps.specs.declared.Taken.TheVariants.{Exhausted}
 use Rattle.base.specs.Cases.{stated}
 use Rattle.steps.proofs.laws.Cases.{answer_of}
 use Rattle.steps.proofs.laws.Taking.{none_taken}
-use Rattle.table.specs.declared.Got.{Got}
-use Rattle.table.specs.declared.Got.TheVariants.{Entry, Nothing}
 use Rattle.token.specs.Rights.{GRANT, holds}
 use Rattle.table.specs.declared.CapabilityEntry.{CapabilityEntry}
 use Rattle.manager_laws.proofs.laws.Roomed.{parent_in}
@@ -53,7 +51,7 @@ module _ (mem : List ℕ) (token source target rights : ℕ) where
   Good = delegate.Good mem token source target rights
 
   -- What the source holds under the token.
-  abbrev got : Got
+  abbrev got : Option CapabilityEntry
   got = delegate.got mem token source target rights
 
   -- The target holds a child already.
@@ -88,8 +86,8 @@ module _ (mem : List ℕ) (token source target rights : ℕ) where
   Case n =
       stated (eqb n 26) (¬ Sound mem)
       (stated (eqb n 20) (Sound mem × (((numbers_of mem).spaces ≤ source) ⊎ ((numbers_of mem).spaces ≤ target)))
-      (stated (eqb n 1) ((Entered × (got ≡ Nothing)) ⊎ ((t : Took) × (registered_of (from t) ≤ parent t)))
-      (stated (eqb n 6) (Entered × ((e : CapabilityEntry) × ((got ≡ Entry e) × (holds e.rights.0 GRANT ≡ false))))
+      (stated (eqb n 1) ((Entered × (got ≡ None)) ⊎ ((t : Took) × (registered_of (from t) ≤ parent t)))
+      (stated (eqb n 6) (Entered × ((e : CapabilityEntry) × ((got ≡ Some e) × (holds e.rights.0 GRANT ≡ false))))
       (stated (eqb n 10) ((g : Granted) × ((held g ≡ false) × (1024 ≤ remain g)))
       (stated (eqb n 9) ((a : Asked) × (taken_id (numbers_of mem) (base a.granted) ≡ Exhausted))
       (stated (eqb n 3)
@@ -144,7 +142,7 @@ module _ (mem : List ℕ) (token source target rights : ℕ) where
 
   pub delegate_told_1 :
       ((delegate_out mem token source target rights).reply.answer ≡ InvalidCapability)
-      ↔ ((Entered × (got ≡ Nothing)) ⊎ ((t : Took) × (registered_of (from t) ≤ parent t)))
+      ↔ ((Entered × (got ≡ None)) ⊎ ((t : Took) × (registered_of (from t) ≤ parent t)))
   delegate_told_1 = (
     in_case InvalidCapability,
     ⊎_elim (λ (entered, none). answers (delegate.absent entered none)) (λ (t, outside). answers (delegate.orphaned t outside)),
@@ -152,7 +150,7 @@ module _ (mem : List ℕ) (token source target rights : ℕ) where
 
   pub delegate_told_6 :
       ((delegate_out mem token source target rights).reply.answer ≡ PermissionDenied)
-      ↔ (Entered × ((e : CapabilityEntry) × ((got ≡ Entry e) × (holds e.rights.0 GRANT ≡ false))))
+      ↔ (Entered × ((e : CapabilityEntry) × ((got ≡ Some e) × (holds e.rights.0 GRANT ≡ false))))
   delegate_told_6 = (in_case PermissionDenied, λ (entered, (e, (found, none))). answers (delegate.ungranted entered e found none))
 
   pub delegate_told_10 :
@@ -213,7 +211,7 @@ module _ (mem : List ℕ) (token source target rights : ℕ) where
 
   -- 1 where the source does not hold the token, and 6: the lookup is counted.
   pub delegate_absent :
-      Entered → got ≡ Nothing → (delegate_out mem token source target rights).memory ≡ lookup_step (numbers_of mem) source token mem
+      Entered → got ≡ None → (delegate_out mem token source target rights).memory ≡ lookup_step (numbers_of mem) source token mem
   delegate_absent entered none = leaves (delegate.absent entered none)
 
   pub delegate_6 :

@@ -1,5 +1,5 @@
 -- Every way through delegate (`Way`): when it is taken, and what it answers and leaves.
-use Rattle.std.proofs.Common.{Bool, true, false, not, List, ◌≢◌, ⊎_elim, ◌≡◌, refl, sym, ap, subst, ◌∙◌, ℕ, suc, ◌-◌, ◌≤◌, ◌<◌, arith, lt-ltb, le-ltb, ltb}
+use Rattle.std.proofs.Common.{Bool, true, false, not, List, ◌≢◌, ⊎_elim, ◌≡◌, refl, sym, ap, subst, ◌∙◌, ℕ, suc, ◌-◌, ◌≤◌, ◌<◌, arith, lt-ltb, le-ltb, ltb, Option, None, Some}
 use Rattle.std.proofs.Math.Decide.{dec_lt}
 use Rattle.std.proofs.Math.Logic.{by_cases}
 use Rattle.answers.specs.Number.{number_of}
@@ -21,8 +21,6 @@ use Rattle.steps.proofs.laws.RegistrySteps.{register_step_changes, list_step_cha
 use Rattle.steps.proofs.laws.SpaceSteps.{lookup_step_kept}
 use Rattle.steps.proofs.laws.TakeStep.{take_step_kept}
 use Rattle.table.specs.declared.CapabilityEntry.{CapabilityEntry}
-use Rattle.table.specs.declared.Got.{Got}
-use Rattle.table.specs.declared.Got.TheVariants.{Entry, Nothing}
 use Rattle.token.specs.Rights.{GRANT, holds, common}
 use Rattle.token.specs.Token.{id_of, type_of}
 use Rattle.world.specs.Numbers.{numbers_of, registered_of}
@@ -51,14 +49,14 @@ module _ (mem : List ℕ) (token source target rights : ℕ) where
   abbrev pub looked : List ℕ
   looked = lookup_step (numbers_of mem) source token mem
 
-  abbrev pub got : Got
+  abbrev pub got : Option CapabilityEntry
   got = (looked_up (space_of (numbers_of mem) source mem) token).got
 
   -- The source holds it with GRANT: the children are looked up in the target.
   pub record Granted : Type 0 where
     pub entered : Entered
     pub entry : CapabilityEntry
-    pub found : got ≡ Entry entry
+    pub found : got ≡ Some entry
     pub grant : holds entry.rights.0 GRANT ≡ true
 
   abbrev pub shared : Granted → ℕ
@@ -111,8 +109,8 @@ module _ (mem : List ℕ) (token source target rights : ℕ) where
     bad_world : ¬ Sound mem → Way
     bad_source : Sound mem → (numbers_of mem).spaces ≤ source → Way
     bad_target : Sound mem → source < (numbers_of mem).spaces → (numbers_of mem).spaces ≤ target → Way
-    absent : Entered → got ≡ Nothing → Way
-    ungranted : Entered → (e : CapabilityEntry) → got ≡ Entry e → holds e.rights.0 GRANT ≡ false → Way
+    absent : Entered → got ≡ None → Way
+    ungranted : Entered → (e : CapabilityEntry) → got ≡ Some e → holds e.rights.0 GRANT ≡ false → Way
     reused : (g : Granted) → (offer g).held ≡ true → Way
     crowded :
         (g : Granted) → (offer g).held ≡ false
@@ -218,9 +216,9 @@ module _ (mem : List ℕ) (token source target rights : ℕ) where
       (λ few. asked_way (record { granted = g; none_held = none; few = few }) (taken_id d (base g)) refl)
       (λ many. crowded g none (omega arith))
 
-  entered_way : (entered : Entered) (g : Got) → got ≡ g → Way
-  entered_way entered Nothing is = absent entered is
-  entered_way entered (Entry e) is = go (holds e.rights.0 GRANT) refl
+  entered_way : (entered : Entered) (g : Option CapabilityEntry) → got ≡ g → Way
+  entered_way entered None is = absent entered is
+  entered_way entered (Some e) is = go (holds e.rights.0 GRANT) refl
     where
       go : (b : Bool) → holds e.rights.0 GRANT ≡ b → Way
       go true grant =
@@ -245,8 +243,8 @@ module _ (mem : List ℕ) (token source target rights : ℕ) where
       ∙ when_no _ _ _ (ap not (lt-ltb target d.spaces entered.to))
 
   found_goes :
-      Entered → (e : CapabilityEntry) → got ≡ Entry e
-      → delegate_out mem token source target rights ≡ granting d target token rights looked (Entry e)
+      Entered → (e : CapabilityEntry) → got ≡ Some e
+      → delegate_out mem token source target rights ≡ granting d target token rights looked (Some e)
   found_goes entered e is = entered_goes entered ∙ ap (granting d target token rights looked) is
 
   granted_goes : (g : Granted) → delegate_out mem token source target rights ≡ offering d target token (shared g) (offer g)

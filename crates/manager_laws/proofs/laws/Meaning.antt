@@ -1,6 +1,6 @@
 -- Check in a user's words, and the collection in ids: a check is answered 0 exactly if the space holds the token with the rights and the id
 -- is registered, unrevoked, of the token's generation; and a collection takes exactly the ids that nothing needs.
-use Rattle.std.proofs.Common.{true, false, true≢false, List, ◌↔◌, ◌≡◌, refl, sym, ap, ◌∙◌, ℕ, ◌+◌, ◌*◌, ◌≤◌, ◌<◌, arith, ltb-true, lt-ltb, eqb, ltb, length}
+use Rattle.std.proofs.Common.{true, false, true≢false, List, ◌↔◌, ◌≡◌, refl, sym, ap, ◌∙◌, ℕ, ◌+◌, ◌*◌, ◌≤◌, ◌<◌, arith, ltb-true, lt-ltb, eqb, ltb, length, Option, None, Some}
 use Rattle.answers.specs.Number.{number_of}
 use Rattle.answers.specs.declared.Answer.TheVariants.{Done}
 use Rattle.base.specs.Exactly.{eqb_exactly, both_exactly}
@@ -13,8 +13,6 @@ use Rattle.steps.specs.Steps.{space_of, place_in, collect_step}
 use Rattle.steps.specs.declared.Reply.{Reply}
 use Rattle.steps.proofs.laws.RegistrySteps.{collect_step_changes}
 use Rattle.table.specs.declared.CapabilityEntry.{CapabilityEntry}
-use Rattle.table.specs.declared.Got.{Got}
-use Rattle.table.specs.declared.Got.TheVariants.{Entry, Nothing}
 use Rattle.token.specs.Rights.{holds}
 use Rattle.token.specs.Token.{id_of, generation_of}
 use Rattle.world.specs.Numbers.{numbers_of, registered_of}
@@ -29,13 +27,13 @@ use Rattle.manager_laws.proofs.laws.Ways.{check_by_cases}
 
 -- Held with all the rights required.
 grants_exactly :
-    (required : ℕ) (g : Got)
-    → (grants required g ≡ true) ↔ ((e : CapabilityEntry) × ((g ≡ Entry e) × (holds e.rights.0 required ≡ true)))
-grants_exactly required (Entry e) = (
+    (required : ℕ) (g : Option CapabilityEntry)
+    → (grants required g ≡ true) ↔ ((e : CapabilityEntry) × ((g ≡ Some e) × (holds e.rights.0 required ≡ true)))
+grants_exactly required (Some e) = (
   λ h. (e, (refl, h)),
   λ (x, (same, h)). let is : e ≡ x = cc in rw is h,
 )
-grants_exactly required Nothing = (
+grants_exactly required None = (
   λ h. absurd (true≢false (sym h)),
   λ (x, (same, h)). let z : ◌≡◌ {A = ℕ} 0 1 = cc in absurd (omega arith),
 )
@@ -66,7 +64,7 @@ pub record Passes (mem : List ℕ) (token required s : ℕ) : Type 0 where
   pub sound : Sound mem
   pub there : s < (numbers_of mem).spaces
   pub entry : CapabilityEntry
-  pub held : (looked_up (space_of (numbers_of mem) s mem) token).got ≡ Entry entry
+  pub held : (looked_up (space_of (numbers_of mem) s mem) token).got ≡ Some entry
   pub granted : holds entry.rights.0 required ≡ true
   pub good : valid_in (numbers_of mem) mem token ≡ true
 
@@ -88,10 +86,10 @@ check_exactly mem token required s =
       λ p. refl,
     ))
   where
-    got : Got
+    got : Option CapabilityEntry
     got = (looked_up (space_of (numbers_of mem) s mem) token).got
 
-    exactly : (grants required got ≡ true) ↔ ((e : CapabilityEntry) × ((got ≡ Entry e) × (holds e.rights.0 required ≡ true)))
+    exactly : (grants required got ≡ true) ↔ ((e : CapabilityEntry) × ((got ≡ Some e) × (holds e.rights.0 required ≡ true)))
     exactly = grants_exactly required got
 
 -- ---- the collection

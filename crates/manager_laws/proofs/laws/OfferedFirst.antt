@@ -1,6 +1,6 @@
 -- The child that a delegation returns: the first in list order that the target holds with exactly its token and the rights; where none is
 -- returned there is none. The lookups on the way count, and change nothing of this.
-use Rattle.std.proofs.Common.{Bool, true, false, true≢false, List, ◌↔◌, ⊎_elim, ◌≡◌, refl, sym, ap, subst, ◌∙◌, ℕ, zero, suc, ◌+◌, ◌<◌, ◌≤◌, eq-or-lt_of_le, arith, eqb}
+use Rattle.std.proofs.Common.{Bool, true, false, true≢false, List, ◌↔◌, ⊎_elim, ◌≡◌, refl, sym, ap, subst, ◌∙◌, ℕ, zero, suc, ◌+◌, ◌<◌, ◌≤◌, eq-or-lt_of_le, arith, eqb, Option, None, Some}
 use Rattle.base.specs.Choose.{both}
 use Rattle.base.specs.Exactly.{eqb_exactly, both_exactly}
 use Rattle.registry.specs.Words.{revoked, child_of}
@@ -16,8 +16,6 @@ use Rattle.steps.proofs.laws.OnlySpace.{lookup_in_space}
 use Rattle.steps.proofs.laws.Ready.{is_space}
 use Rattle.steps.proofs.laws.SpaceSteps.{lookup_step_kept}
 use Rattle.table.specs.declared.CapabilityEntry.{CapabilityEntry}
-use Rattle.table.specs.declared.Got.{Got}
-use Rattle.table.specs.declared.Got.TheVariants.{Entry, Nothing}
 use Rattle.token.specs.Rights.{common}
 use Rattle.token.specs.Token.{id_of, type_of}
 use Rattle.world.specs.Numbers.{numbers_of, registered_of}
@@ -36,11 +34,11 @@ held_as_before :
 held_as_before most sp is token rights other =
     ap (held_with rights) (counted_answers most sp is token other) ∙ go (looked_up sp other).got
   where
-    go : (g : Got) → held_with rights (got_as (used_by token) g) ≡ held_with rights g
-    go (Entry x) =
+    go : (g : Option CapabilityEntry) → held_with rights (got_as (used_by token) g) ≡ held_with rights g
+    go (Some x) =
         pick_by_cases (λ (e : CapabilityEntry). eqb e.rights.0 rights ≡ eqb x.rights.0 rights) _ _ (eqb x.capability.0 token)
         (λ own. refl) (λ apart. refl)
-    go Nothing = refl
+    go None = refl
 
 module _ (d : Numbers) (target p cap_type rights : ℕ) where
   -- The token that place k would be offered with.
@@ -60,15 +58,15 @@ module _ (d : Numbers) (target p cap_type rights : ℕ) where
   fitting mem k = both (open_child d mem p k) (held_there mem k)
 
   held_exactly :
-      (mem : List ℕ) (token : ℕ) (g : Got) → (looked_up (space_of d target mem) token).got ≡ g
+      (mem : List ℕ) (token : ℕ) (g : Option CapabilityEntry) → (looked_up (space_of d target mem) token).got ≡ g
       → (held_with rights g ≡ true) ↔ HeldWith d target mem token rights
-  held_exactly mem token (Entry e) is = (
+  held_exactly mem token (Some e) is = (
     λ h. record { entry = e; found = is; exactly = (eqb_exactly e.rights.0 rights).0 h },
     λ h.
         let same : h.entry ≡ e = cc (is, h.found) in
         (eqb_exactly e.rights.0 rights).1 (ap (λ e. e.rights.0) (sym same) ∙ h.exactly),
   )
-  held_exactly mem token Nothing is = (
+  held_exactly mem token None is = (
     λ h. absurd (true≢false (sym h)),
     λ h. let z : ◌≡◌ {A = ℕ} 0 1 = cc (is, h.found) in absurd (omega arith),
   )

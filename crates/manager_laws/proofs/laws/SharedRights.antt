@@ -1,6 +1,6 @@
 -- A delegated token's rights lie within both sets: whether new or held already, the target holds it with the bits that the delegator's
 -- entry and the given rights have in common.
-use Rattle.std.proofs.Common.{true, true≢false, List, ⊎_elim, ◌≡◌, refl, sym, ap, subst, ◌∙◌, ℕ, ◌^◌, ◌<◌, arith, eqb-true}
+use Rattle.std.proofs.Common.{true, true≢false, List, ⊎_elim, ◌≡◌, refl, sym, ap, subst, ◌∙◌, ℕ, ◌^◌, ◌<◌, arith, eqb-true, Option, None, Some}
 use Rattle.answers.specs.declared.Answer.TheVariants.{Done}
 use Rattle.space.specs.Lookup.{looked_up}
 use Rattle.space.proofs.laws.Counted.{used, found_again}
@@ -11,8 +11,6 @@ use Rattle.steps.proofs.laws.OnlySpace.{lookup_in_space}
 use Rattle.steps.proofs.laws.Ready.{is_space}
 use Rattle.steps.proofs.laws.SpaceSteps.{lookup_step_kept}
 use Rattle.table.specs.declared.CapabilityEntry.{CapabilityEntry}
-use Rattle.table.specs.declared.Got.{Got}
-use Rattle.table.specs.declared.Got.TheVariants.{Entry, Nothing}
 use Rattle.token.specs.Rights.{holds, common}
 use Rattle.token.specs.RightsLaws.{contains_is_subset, intersection_is_what_both_have}
 use Rattle.token.specs.Token.{type_of}
@@ -35,15 +33,15 @@ common_in_second a b = (contains_is_subset b (common a b)).1 (λ i. omega (arith
 -- Space s holds the token with exactly these rights.
 pub record HeldWith (d : Numbers) (s : ℕ) (mem : List ℕ) (token rights : ℕ) : Type 0 where
   pub entry : CapabilityEntry
-  pub found : (looked_up (space_of d s mem) token).got ≡ Entry entry
+  pub found : (looked_up (space_of d s mem) token).got ≡ Some entry
   pub exactly : entry.rights.0 ≡ rights
 
 -- The lookup counted, it is held as before.
 looked_held :
-    (d : Numbers) (s : ℕ) (mem : List ℕ) → SoundAt d mem → s < d.spaces → (token rights : ℕ) (g : Got)
+    (d : Numbers) (s : ℕ) (mem : List ℕ) → SoundAt d mem → s < d.spaces → (token rights : ℕ) (g : Option CapabilityEntry)
     → (looked_up (space_of d s mem) token).got ≡ g → held_with rights g ≡ true → HeldWith d s (lookup_step d s token mem) token rights
-looked_held d s mem sound valid token rights Nothing is held = absurd (true≢false (sym held))
-looked_held d s mem sound valid token rights (Entry e) is held = record {
+looked_held d s mem sound valid token rights None is held = absurd (true≢false (sym held))
+looked_held d s mem sound valid token rights (Some e) is held = record {
   entry = used e;
   found =
       ap (λ sp. (looked_up sp token).got) (lookup_in_space d mem sound s valid token).here

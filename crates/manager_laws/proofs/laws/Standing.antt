@@ -1,6 +1,6 @@
 -- What stands after a create or a delegate that made a token: its id is registered, unrevoked, with its object, its parent and no list of
 -- its own, and the space holds the token with its rights.
-use Rattle.std.proofs.Common.{Bool, List, ◌⊎◌, inl, inr, ◌≡◌, refl, ap, subst, ◌∙◌, ℕ, suc, ◌+◌, ◌*◌, ◌%◌, ◌^◌, ◌≤◌, ◌<◌, arith, length, get_or}
+use Rattle.std.proofs.Common.{Bool, List, ◌⊎◌, inl, inr, ◌≡◌, refl, ap, subst, ◌∙◌, ℕ, suc, ◌+◌, ◌*◌, ◌%◌, ◌^◌, ◌≤◌, ◌<◌, arith, length, get_or, Some}
 use lib.Bits.{and_le_r}
 use Rattle.answers.specs.Number.{number_of}
 use Rattle.answers.specs.declared.Answer.TheVariants.{Done}
@@ -21,7 +21,6 @@ use Rattle.steps.proofs.laws.RegistryChanged.{RegistryChanged}
 use Rattle.steps.proofs.laws.RegistrySteps.{register_step_changes, add_step_changes, add_step_kept}
 use Rattle.steps.proofs.laws.SpaceSteps.{insert_step_kept}
 use Rattle.token.specs.Token.{id_of, type_of}
-use Rattle.table.specs.declared.Got.TheVariants.{Entry}
 use Rattle.table.specs.declared.CapabilityEntry.{CapabilityEntry}
 use Rattle.world.specs.Numbers.{numbers_of, registered_of}
 use Rattle.world.specs.Regions.{registry, view}
@@ -47,7 +46,7 @@ pub record Stands (d : Numbers) (s id k link : ℕ) (e : CapabilityEntry) (after
   pub no_list : has_list (states d after (place_in d after id)) ≡ 0
   pub object : objects d after (place_in d after id) ≡ e.object
   pub parent : links d after (place_in d after id) ≡ link
-  pub found : (looked_up (space_of d s after) e.capability.0).got ≡ Entry e
+  pub found : (looked_up (space_of d s after) e.capability.0).got ≡ Some e
 
 module _ (d : Numbers) (mem : List ℕ) (id object link : ℕ) (reg : Registration d mem id link) (s : ℕ) (valid : s < d.spaces)
     (token rights i : ℕ) (fits : rights < 2 ^ 32) (low : 7 ≤ i) (high : i < 11)

@@ -1,6 +1,6 @@
 -- When a record is answered 21, on a sound memory of 4 spaces: where it is refused for a field, and for a space revoke of an id over
 -- 2^48-1. No other call of a record has a field out of its range, nor a drain too short an area.
-use Rattle.std.proofs.Common.{List, ◌↔◌, ◌≢◌, ◌⊎◌, inl, inr, ⊎_elim, ◌≡◌, refl, subst, sym, ap, ◌∙◌, ℕ, ◌^◌, ◌≤◌, ◌<◌, arith, eqb-true, ltb-true, eqb, ltb, length}
+use Rattle.std.proofs.Common.{List, ◌↔◌, ◌≢◌, ◌⊎◌, inl, inr, ⊎_elim, ◌≡◌, refl, subst, sym, ap, ◌∙◌, ℕ, ◌^◌, ◌≤◌, ◌<◌, arith, eqb-true, ltb-true, eqb, ltb, length, Option, None, Some}
 use Rattle.std.proofs.Math.Decide.{dec_lt}
 use Rattle.std.proofs.Math.ListN.{length-replicate}
 use Rattle.std.proofs.Math.Logic.{by_cases}
@@ -36,8 +36,6 @@ use Rattle.steps.specs.Replies.{Left, refuse}
 use Rattle.steps.specs.Steps.{space_of, new_entry}
 use Rattle.steps.specs.declared.Reply.{Reply}
 use Rattle.table.specs.declared.CapabilityEntry.{CapabilityEntry}
-use Rattle.table.specs.declared.Got.{Got}
-use Rattle.table.specs.declared.Got.TheVariants.{Entry, Nothing}
 use Rattle.world.specs.Numbers.{numbers_of}
 use Rattle.world.specs.Sound.{Sound}
 use Rattle.world.specs.declared.Numbers.{Numbers}
@@ -51,9 +49,9 @@ use Rattle.request_run.specs.Run.{pids, drained, called_1_to_5, called_6_to_10, 
 other : (a : Answer) → number_of a ≢ 21 → a ≢ BadField
 other a differs e = differs (ap number_of e)
 
-not_found : (value : CapabilityEntry → ℕ) (got : Got) (visits : ℕ) → (found_reply value got visits).answer ≢ BadField
-not_found value (Entry e) visits = other Done (λ e. omega arith)
-not_found value Nothing visits = other NotFound (λ e. omega arith)
+not_found : (value : CapabilityEntry → ℕ) (got : Option CapabilityEntry) (visits : ℕ) → (found_reply value got visits).answer ≢ BadField
+not_found value (Some e) visits = other Done (λ e. omega arith)
+not_found value None visits = other NotFound (λ e. omega arith)
 
 not_inserted : (sp : List ℕ) (e : CapabilityEntry) → (insert_out sp e).answer ≢ BadField
 not_inserted sp e =

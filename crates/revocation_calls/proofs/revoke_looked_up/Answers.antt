@@ -1,25 +1,23 @@
 -- What was looked up decides, then REVOKE.
-use Rattle.std.proofs.Common.{Bool, true, false, not, List, ◌≡◌, sym, ap, ◌∙◌, ℕ, rules}
+use Rattle.std.proofs.Common.{Bool, true, false, not, List, ◌≡◌, sym, ap, ◌∙◌, ℕ, rules, Option, None, Some}
 use Rattle.answers.specs.declared.Answer.TheVariants.{InsufficientRights, NotFound}
 use Rattle.steps.specs.Replies.{Left, replied}
 use Rattle.steps.specs.declared.Reply.{Reply}
 use Rattle.steps.proofs.Leaving.{left_both}
 use Rattle.base.specs.Cases.{when_ends, when_goes_on}
 use Rattle.table.specs.declared.CapabilityEntry.{CapabilityEntry}
-use Rattle.table.specs.declared.Got.{Got}
-use Rattle.table.specs.declared.Got.TheVariants.{Entry, Nothing}
 use Rattle.token.specs.Rights.{REVOKE, holds}
 use Rattle.world.specs.declared.Numbers.{Numbers}
 use Rattle.revocation_calls.specs.Revoking.{revoking_token, revoking_held}
 use Rattle.revocation_calls.proofs.revoke_looked_up.Goals as goal
 
-module _ (d : Numbers) (token time : ℕ) (listed mem : List ℕ) (got : Got) (visits : ℕ) (out : Left Reply) where
+module _ (d : Numbers) (token time : ℕ) (listed mem : List ℕ) (got : Option CapabilityEntry) (visits : ℕ) (out : Left Reply) where
   absent :
-      got ≡ Nothing → out ≡ record { reply = replied NotFound 0 visits; memory = mem }
+      got ≡ None → out ≡ record { reply = replied NotFound 0 visits; memory = mem }
       → out ≡ revoking_held d token time listed mem got visits
   absent told is = rw told is
 
-  module _ (e : CapabilityEntry) (told : got ≡ Entry e) (revokes : Bool) (tested : revokes ≡ holds e.rights.0 REVOKE) where
+  module _ (e : CapabilityEntry) (told : got ≡ Some e) (revokes : Bool) (tested : revokes ≡ holds e.rights.0 REVOKE) where
     denied :
         not revokes ≡ true → out ≡ record { reply = replied InsufficientRights 0 visits; memory = mem }
         → out ≡ revoking_held d token time listed mem got visits

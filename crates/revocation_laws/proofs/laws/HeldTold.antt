@@ -1,6 +1,6 @@
 -- When each answer of a held revoke and of a batch is given, on a sound memory: 21 exactly for too long a list; then 8 exactly where the
 -- space has not the token and 2 exactly where it has it without REVOKE, else as `revoke_capability` answers; and a batch gives 0.
-use Rattle.std.proofs.Common.{true, false, true≢false, List, ◌↔◌, ◌≢◌, ◌⊎◌, inl, inr, ⊎_elim, ◌≡◌, refl, sym, ap, ◌∙◌, ℕ, ◌≤◌, ◌<◌, arith, length}
+use Rattle.std.proofs.Common.{true, false, true≢false, List, ◌↔◌, ◌≢◌, ◌⊎◌, inl, inr, ⊎_elim, ◌≡◌, refl, sym, ap, ◌∙◌, ℕ, ◌≤◌, ◌<◌, arith, length, Option, None, Some}
 use Rattle.answers.specs.Number.{number_of}
 use Rattle.answers.specs.declared.Answer.{Answer}
 use Rattle.answers.specs.declared.Answer.TheVariants.{Done, InsufficientRights, NotFound, BadField, LogFull, PidTableFull}
@@ -9,8 +9,6 @@ use Rattle.steps.specs.Steps.{space_of, lookup_step}
 use Rattle.steps.specs.declared.Reply.{Reply}
 use Rattle.steps.proofs.laws.Cases.{Exactly, given, not_given}
 use Rattle.table.specs.declared.CapabilityEntry.{CapabilityEntry}
-use Rattle.table.specs.declared.Got.{Got}
-use Rattle.table.specs.declared.Got.TheVariants.{Entry, Nothing}
 use Rattle.token.specs.Rights.{REVOKE, holds}
 use Rattle.world.specs.Numbers.{numbers_of}
 use Rattle.world.specs.Sound.{Sound}
@@ -28,15 +26,15 @@ module _ (mem : List ℕ) (sound : Sound mem) (s : ℕ) (there : s < (numbers_of
   d = numbers_of mem
 
   -- What the space holds under the token.
-  abbrev got : Got
+  abbrev got : Option CapabilityEntry
   got = (looked_up (space_of d s mem) token).got
 
   -- An entry without REVOKE, or with it.
   abbrev pub Without : Type 0
-  Without = (e : CapabilityEntry) × ((got ≡ Entry e) × (holds e.rights.0 REVOKE ≡ false))
+  Without = (e : CapabilityEntry) × ((got ≡ Some e) × (holds e.rights.0 REVOKE ≡ false))
 
   abbrev pub With : Type 0
-  With = (e : CapabilityEntry) × ((got ≡ Entry e) × (holds e.rights.0 REVOKE ≡ true))
+  With = (e : CapabilityEntry) × ((got ≡ Some e) × (holds e.rights.0 REVOKE ≡ true))
 
   abbrev after : List ℕ
   after = lookup_step d s token mem
@@ -45,7 +43,7 @@ module _ (mem : List ℕ) (sound : Sound mem) (s : ℕ) (there : s < (numbers_of
   by_token = (revoking_token d token time listed after).reply.answer
 
   module _ (a : Answer) (A : Type 0) (many : 32 < length listed → (BadField ≡ a) ↔ A)
-      (absent : length listed ≤ 32 → got ≡ Nothing → (NotFound ≡ a) ↔ A)
+      (absent : length listed ≤ 32 → got ≡ None → (NotFound ≡ a) ↔ A)
       (without : length listed ≤ 32 → Without → (InsufficientRights ≡ a) ↔ A) (with' : length listed ≤ 32 → With → (by_token ≡ a) ↔ A)
     where
       by_holding : ((revoke_held_out mem s token time listed).reply.answer ≡ a) ↔ A
@@ -66,10 +64,10 @@ module _ (mem : List ℕ) (sound : Sound mem) (s : ℕ) (there : s < (numbers_of
       (λ few with'. not_by_token BadField (omega arith) (omega arith) (λ many. omega arith))
 
   -- An entry is not nothing, and has its rights.
-  held_once : (g : Got) (e : CapabilityEntry) → g ≡ Entry e → g ≡ Nothing → ⊥
+  held_once : (g : Option CapabilityEntry) (e : CapabilityEntry) → g ≡ Some e → g ≡ None → ⊥
   held_once g e is none = let z : ◌≡◌ {A = ℕ} 0 1 = cc in omega arith
 
-  one_entry : (g : Got) (e e' : CapabilityEntry) → g ≡ Entry e → g ≡ Entry e' → e ≡ e'
+  one_entry : (g : Option CapabilityEntry) (e e' : CapabilityEntry) → g ≡ Some e → g ≡ Some e' → e ≡ e'
   one_entry g e e' is is' = cc
 
   not_both : Without → With → ⊥
@@ -80,9 +78,9 @@ module _ (mem : List ℕ) (sound : Sound mem) (s : ℕ) (there : s < (numbers_of
   module _ (few : length listed ≤ 32) where
     pub held_told_8 :
         ((revoke_held_out mem s token time listed).reply.answer ≡ NotFound)
-        ↔ ((looked_up (space_of (numbers_of mem) s mem) token).got ≡ Nothing)
+        ↔ ((looked_up (space_of (numbers_of mem) s mem) token).got ≡ None)
     held_told_8 =
-        by_holding NotFound (got ≡ Nothing) (λ many. absurd (omega arith)) (λ few none. given refl none)
+        by_holding NotFound (got ≡ None) (λ many. absurd (omega arith)) (λ few none. given refl none)
         (λ few (e, (is, lacks)). not_given InsufficientRights NotFound (λ e. omega arith) (held_once got e is))
         (λ few (e, (is, has)). not_by_token NotFound (omega arith) (omega arith) (held_once got e is))
 
@@ -100,7 +98,7 @@ module _ (mem : List ℕ) (sound : Sound mem) (s : ℕ) (there : s < (numbers_of
         (ap (λ (r : Reply). r.answer) (counted_answers d mem sound s there token token time listed))
 
     pub held_answers :
-        (e : CapabilityEntry) → (looked_up (space_of (numbers_of mem) s mem) token).got ≡ Entry e → holds e.rights.0 REVOKE ≡ true
+        (e : CapabilityEntry) → (looked_up (space_of (numbers_of mem) s mem) token).got ≡ Some e → holds e.rights.0 REVOKE ≡ true
         → (revoke_held_out mem s token time listed).reply.answer ≡ (revoke_capability_out mem token time listed).reply.answer
     held_answers e is with' = rw (held_with_revoke mem sound time listed few s token there e is with') counted
 

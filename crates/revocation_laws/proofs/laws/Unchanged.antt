@@ -1,6 +1,6 @@
 -- What refusals leave: a refusal's value is 0 and it changes nothing, not even the lent area, but that the lookup of a held revoke stays
 -- counted. And an id that is revoked already: 0, nothing changes.
-use Rattle.std.proofs.Common.{true, List, ◌≢◌, ◌≡◌, refl, ap, ◌∙◌, ℕ, ◌≤◌, ◌<◌, arith, length}
+use Rattle.std.proofs.Common.{true, List, ◌≢◌, ◌≡◌, refl, ap, ◌∙◌, ℕ, ◌≤◌, ◌<◌, arith, length, Some}
 use Rattle.answers.specs.declared.Answer.{Answer}
 use Rattle.answers.specs.declared.Answer.TheVariants.{Done, InvalidCapability, BadField, LogFull, PidTableFull, BadWorld}
 use Rattle.registry.specs.Words.{revoked}
@@ -13,7 +13,6 @@ use Rattle.base.specs.Cases.{either}
 use Rattle.steps.proofs.laws.Entered.{world_by_cases}
 use Rattle.steps.proofs.laws.Listed.{into_by_cases}
 use Rattle.table.specs.declared.CapabilityEntry.{CapabilityEntry}
-use Rattle.table.specs.declared.Got.TheVariants.{Entry}
 use Rattle.token.specs.Rights.{REVOKE, holds}
 use Rattle.token.specs.Token.{id_of}
 use Rattle.world.specs.Numbers.{numbers_of, registered_of}
@@ -142,7 +141,7 @@ module _ (mem : List ℕ) (time : ℕ) (listed : List ℕ) where
 
       -- Held with REVOKE, and revoked already: the lookup is counted, and that is all.
       pub held_already :
-          (e : CapabilityEntry) → (looked_up (space_of (numbers_of mem) s mem) token).got ≡ Entry e → holds e.rights.0 REVOKE ≡ true
+          (e : CapabilityEntry) → (looked_up (space_of (numbers_of mem) s mem) token).got ≡ Some e → holds e.rights.0 REVOKE ≡ true
           → place_in (numbers_of mem) mem (id_of token) < registered_of mem
           → revoked (states (numbers_of mem) mem (place_in (numbers_of mem) mem (id_of token))) ≡ 1
           → revoke_held_out mem s token time listed

@@ -1,5 +1,5 @@
 -- The ways through the calls that revoke: what holds of each ending holds of the whole; and which answers are a revocation's own.
-use Rattle.std.proofs.Common.{true, false, not, List, [], ◌∷◌, ◌≢◌, ◌⊎◌, inl, inr, ⊎_elim, ◌≡◌, refl, sym, ap, ◌∙◌, ℕ, ◌+◌, ◌≤◌, ◌<◌, arith, le-ltb, eqb, length}
+use Rattle.std.proofs.Common.{true, false, not, List, [], ◌∷◌, ◌≢◌, ◌⊎◌, inl, inr, ⊎_elim, ◌≡◌, refl, sym, ap, ◌∙◌, ℕ, ◌+◌, ◌≤◌, ◌<◌, arith, le-ltb, eqb, length, Option, None, Some}
 use Rattle.std.proofs.lemmas.Bool.{not-true, not-false}
 use Rattle.answers.specs.Number.{number_of}
 use Rattle.answers.specs.declared.Answer.{Answer}
@@ -14,8 +14,6 @@ use Rattle.steps.specs.declared.Reply.{Reply}
 use Rattle.base.specs.Cases.{when_by_cases, when_below, unless_below}
 use Rattle.steps.proofs.laws.Entered.{world_by_cases, space_by_cases, space_called}
 use Rattle.table.specs.declared.CapabilityEntry.{CapabilityEntry}
-use Rattle.table.specs.declared.Got.{Got}
-use Rattle.table.specs.declared.Got.TheVariants.{Entry, Nothing}
 use Rattle.token.specs.Rights.{REVOKE, holds}
 use Rattle.token.specs.Token.{id_of}
 use Rattle.world.specs.Numbers.{numbers_of, registered_of}
@@ -66,15 +64,15 @@ with_visits visits left = record { reply = replied left.reply.answer 0 visits; m
 
 -- A held revoke by what its lookup got: nothing, an entry without REVOKE, or one with it.
 pub revoking_held_by_cases :
-    (d : Numbers) (token time : ℕ) (listed mem : List ℕ) (P : Left Reply → Type 0) (got : Got) (visits : ℕ)
-    → (got ≡ Nothing → P (record { reply = replied NotFound 0 visits; memory = mem }))
-    → ((e : CapabilityEntry) → got ≡ Entry e → holds e.rights.0 REVOKE ≡ false
+    (d : Numbers) (token time : ℕ) (listed mem : List ℕ) (P : Left Reply → Type 0) (got : Option CapabilityEntry) (visits : ℕ)
+    → (got ≡ None → P (record { reply = replied NotFound 0 visits; memory = mem }))
+    → ((e : CapabilityEntry) → got ≡ Some e → holds e.rights.0 REVOKE ≡ false
     → P (record { reply = replied InsufficientRights 0 visits; memory = mem }))
-    → ((e : CapabilityEntry) → got ≡ Entry e → holds e.rights.0 REVOKE ≡ true
+    → ((e : CapabilityEntry) → got ≡ Some e → holds e.rights.0 REVOKE ≡ true
     → P (with_visits visits (revoking_token d token time listed mem)))
     → P (revoking_held d token time listed mem got visits)
-revoking_held_by_cases d token time listed mem P Nothing visits absent without with' = absent refl
-revoking_held_by_cases d token time listed mem P (Entry e) visits absent without with' =
+revoking_held_by_cases d token time listed mem P None visits absent without with' = absent refl
+revoking_held_by_cases d token time listed mem P (Some e) visits absent without with' =
     when_by_cases P _ _ (not (holds e.rights.0 REVOKE))
     (λ h. without e refl (not-true _ h)) (λ h. with' e refl (not-false _ h))
 
@@ -115,11 +113,11 @@ module _ (mem : List ℕ) (time : ℕ) (listed : List ℕ) (P : Left Reply → T
 
     pub held_by_cases :
         (Sound mem → d.spaces ≤ s → P (refuse mem BadSpace)) → (Sound mem → s < d.spaces → 32 < length listed → P (refuse mem BadField))
-        → (Sound mem → s < d.spaces → length listed ≤ 32 → found.got ≡ Nothing
+        → (Sound mem → s < d.spaces → length listed ≤ 32 → found.got ≡ None
         → P (record { reply = replied NotFound 0 found.visits; memory = looked }))
-        → (Sound mem → s < d.spaces → length listed ≤ 32 → (e : CapabilityEntry) → found.got ≡ Entry e
+        → (Sound mem → s < d.spaces → length listed ≤ 32 → (e : CapabilityEntry) → found.got ≡ Some e
         → holds e.rights.0 REVOKE ≡ false → P (record { reply = replied InsufficientRights 0 found.visits; memory = looked }))
-        → (Sound mem → s < d.spaces → length listed ≤ 32 → (e : CapabilityEntry) → found.got ≡ Entry e
+        → (Sound mem → s < d.spaces → length listed ≤ 32 → (e : CapabilityEntry) → found.got ≡ Some e
         → holds e.rights.0 REVOKE ≡ true → P (with_visits found.visits (revoking_token d token time listed looked)))
         → P (revoke_held_out mem s token time listed)
     unfolding revoke_held_out
@@ -169,7 +167,7 @@ module _ (mem : List ℕ) (sound : Sound mem) (time : ℕ) (listed : List ℕ) (
 
   -- Held with REVOKE: what is revoked by the token, on the memory with the lookup counted.
   module _ (s token : ℕ) (there : s < (numbers_of mem).spaces) (e : CapabilityEntry)
-      (is : (looked_up (space_of (numbers_of mem) s mem) token).got ≡ Entry e) (with' : holds e.rights.0 REVOKE ≡ true)
+      (is : (looked_up (space_of (numbers_of mem) s mem) token).got ≡ Some e) (with' : holds e.rights.0 REVOKE ≡ true)
     where
       abbrev after : List ℕ
       after = lookup_step (numbers_of mem) s token mem

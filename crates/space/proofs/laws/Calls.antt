@@ -1,8 +1,6 @@
 -- Whatever the call, a sound space is kept sound, and its quota never changes.
-use Rattle.std.proofs.Common.{◌≡◌, ℕ, ◌^◌, ◌<◌, List, refl, ap}
+use Rattle.std.proofs.Common.{◌≡◌, ℕ, ◌^◌, ◌<◌, List, refl, ap, Option, None, Some}
 use Rattle.table.specs.declared.CapabilityEntry.{CapabilityEntry}
-use Rattle.table.specs.declared.Found.{Found}
-use Rattle.table.specs.declared.Found.TheVariants.{At, Absent}
 use Rattle.space.specs.Words.{quota_of}
 use Rattle.space.specs.Sound.{SpaceOf}
 use Rattle.space.specs.Lookup.{exactly, counted_at, counted}
@@ -44,17 +42,17 @@ module _ (most : ℕ) (sp : List ℕ) (s : SpaceOf most sp) where
   unfolding after counted removed_token
   quota_never_changes (lookup token) = go (exactly sp token)
     where
-      go : (f : Found) → quota_of (counted_at sp f) ≡ quota_of sp
-      go (At i) = ap (λ (v : View). v.quota) (view_hit sp (fits most sp s) i)
-      go Absent = ap (λ (v : View). v.quota) (view_miss sp (fits most sp s))
+      go : (f : Option ℕ) → quota_of (counted_at sp f) ≡ quota_of sp
+      go (Some i) = ap (λ (v : View). v.quota) (view_hit sp (fits most sp s) i)
+      go None = ap (λ (v : View). v.quota) (view_miss sp (fits most sp s))
   quota_never_changes (insert e rights) =
       insert_by_cases sp e (λ o. quota_of o.words ≡ quota_of sp) (λ over. refl) (λ i under there. refl)
       (λ a. ap (λ (v : View). v.quota) (view_inserted sp (fits most sp s) e))
   quota_never_changes (remove token) = go (exactly sp token)
     where
-      go : (f : Found) → quota_of (removed_found sp f) ≡ quota_of sp
-      go (At i) = ap (λ (v : View). v.quota) (view_removed sp (fits most sp s) i)
-      go Absent = refl
+      go : (f : Option ℕ) → quota_of (removed_found sp f) ≡ quota_of sp
+      go (Some i) = ap (λ (v : View). v.quota) (view_removed sp (fits most sp s) i)
+      go None = refl
   quota_never_changes clear = ap (λ (v : View). v.quota) (view_cleared sp (fits most sp s))
   quota_never_changes next = ap (λ (v : View). v.quota) (view_next sp (fits most sp s))
   quota_never_changes (copy source t) = ap (λ (v : View). v.quota) (view_copied source sp (fits most sp s))

@@ -1,11 +1,10 @@
 -- A copy: the target answers each token as the source did, with the uses zeroed. The code copies by way of a scratch array, and that is
 -- the copy of document 01.
-use Rattle.std.proofs.Common.{◌≡◌, ℕ, ◌*◌, ◌≤◌, ◌↔◌, List, length, refl, ap, ◌∙◌, arith}
+use Rattle.std.proofs.Common.{◌≡◌, ℕ, ◌*◌, ◌≤◌, ◌↔◌, List, length, refl, ap, ◌∙◌, arith, Option}
 use Rattle.base.specs.Arith.{next_mono}
 use Rattle.table.specs.Insert.{holds, gathered}
 use Rattle.table.specs.Copy.{fresh}
 use Rattle.table.specs.declared.CapabilityEntry.{CapabilityEntry}
-use Rattle.table.specs.declared.Got.{Got}
 use Rattle.table.proofs.laws.Scratch.{gathered_count}
 use Rattle.table.proofs.laws.Contents.{HoldsAs}
 use Rattle.table.proofs.laws.Copy.{copy_holds_fresh_entries, gathered_copied}
@@ -19,7 +18,7 @@ use Rattle.space.proofs.laws.Kept.{fits, long, in_range, copy_keeps}
 use Rattle.space.proofs.laws.View.{view, view_copied}
 
 -- What was answered, with the uses zeroed.
-abbrev pub freshly : Got → Got
+abbrev pub freshly : Option CapabilityEntry → Option CapabilityEntry
 freshly = got_as fresh
 
 module _ (most : ℕ) (source target : List ℕ) (s : SpaceOf most source) (t : SpaceOf most target) where

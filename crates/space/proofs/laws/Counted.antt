@@ -1,15 +1,11 @@
 -- A lookup counts, and does nothing else: a hit goes to the hits and to the uses of the token's entry, a miss to the misses. Every search
 -- ends where it did, and every token is answered as before, but for the uses of the one that was found.
-use Rattle.std.proofs.Common.{◌≡◌, ℕ, ◌+◌, ◌*◌, ◌%◌, ◌^◌, ◌<◌, Bool, true, false, eqb, ◌≢◌, ◌↔◌, List, length, get_or, sym, refl, ap, ◌∙◌, arith, get_or-set_other, get_or-set_same, eq-eqb, ne_eqb}
+use Rattle.std.proofs.Common.{◌≡◌, ℕ, ◌+◌, ◌*◌, ◌%◌, ◌^◌, ◌<◌, Bool, true, false, eqb, ◌≢◌, ◌↔◌, List, length, get_or, sym, refl, ap, ◌∙◌, arith, get_or-set_other, get_or-set_same, eq-eqb, ne_eqb, Option, None, Some}
 use Rattle.std.proofs.Math.Decide.{ℕ_discrete}
 use Rattle.std.proofs.Math.Logic.{by_cases}
 use Rattle.base.specs.Choose.{pick}
 use Rattle.table.specs.Slots.{is_live, entry_at}
 use Rattle.table.specs.declared.CapabilityEntry.{CapabilityEntry}
-use Rattle.table.specs.declared.Found.{Found}
-use Rattle.table.specs.declared.Found.TheVariants.{At, Absent}
-use Rattle.table.specs.declared.Got.{Got}
-use Rattle.table.specs.declared.Got.TheVariants.{Entry, Nothing}
 use Rattle.table.proofs.laws.Contents.{HoldsAs, Holds}
 use Rattle.table.proofs.laws.Exact.{search_at}
 use Rattle.space.specs.Words.{hits_of, misses_of, table_of, slot_words}
@@ -78,12 +74,12 @@ holds_mapped f ws vs slots x live same = (
 
 module _ (most : ℕ) (sp : List ℕ) (s : SpaceOf most sp) (token : ℕ) where
   pub hit_counts :
-      (i : ℕ) → exactly sp token ≡ At i
+      (i : ℕ) → exactly sp token ≡ Some i
       → view (counted sp token) ≡ with_slots (table_of sp) (used_at (slot_words sp) i) (with_hits (up (hits_of sp)) (view sp))
   unfolding counted
   hit_counts i e = ap (λ f. view (counted_at sp f)) e ∙ view_hit sp (fits most sp s) i
 
-  pub miss_counts : exactly sp token ≡ Absent → view (counted sp token) ≡ with_misses (up (misses_of sp)) (view sp)
+  pub miss_counts : exactly sp token ≡ None → view (counted sp token) ≡ with_misses (up (misses_of sp)) (view sp)
   unfolding counted
   miss_counts e = ap (λ f. view (counted_at sp f)) e ∙ view_miss sp (fits most sp s)
 
@@ -100,13 +96,13 @@ module _ (most : ℕ) (sp : List ℕ) (s : SpaceOf most sp) (token : ℕ) where
 
       -- Only where exactly the token is found is an entry of the token.
       lies :
-          (f : Found) → exactly sp token ≡ f → (j : ℕ) → j < (table_of sp).slots → is_live ws j ≡ true → token_of (entry_at ws j) ≡ token
-          → f ≡ At j
+          (f : Option ℕ) → exactly sp token ≡ f → (j : ℕ) → j < (table_of sp).slots → is_live ws j ≡ true → token_of (entry_at ws j) ≡ token
+          → f ≡ Some j
       lies f e j l live same =
           sym e ∙ held_exactly most sp s token (entry_at ws j) (record { slot = j; below = l; live = live; same = refl }) same
 
-      go : (f : Found) → exactly sp token ≡ f → Has (view (counted sp token)) x ↔ HoldsAs (used_by token) ws (table_of sp).slots x
-      go (At i) e =
+      go : (f : Option ℕ) → exactly sp token ≡ f → Has (view (counted sp token)) x ↔ HoldsAs (used_by token) ws (table_of sp).slots x
+      go (Some i) e =
           let (found, word) = exactly_at sp token i e in
           let (below, live, id) = search_at ws (table_of sp).slots (token % 2 ^ 48) i found in
           let here : token_of (entry_at ws i) ≡ token = slot_token sp i ∙ word in
@@ -115,14 +111,14 @@ module _ (most : ℕ) (sp : List ℕ) (s : SpaceOf most sp) (token : ℕ) where
           (λ j l lives.
           by_cases (ℕ_discrete j i)
           (λ at_i. rw at_i (used_here ws i (omega (arith, held most sp s)) ∙ rw (eq-eqb _ token here)))
-          (λ d. used_elsewhere ws i j d ∙ other_kept (entry_at ws j) (λ same. d (cc (lies (At i) e j l lives same))))))
-      go Absent e =
+          (λ d. used_elsewhere ws i j d ∙ other_kept (entry_at ws j) (λ same. d (cc (lies (Some i) e j l lives same))))))
+      go None e =
           has_as _ _ x (miss_counts e)
           (holds_mapped (used_by token) ws ws (table_of sp).slots x (λ j. refl)
           (λ j l lives.
           other_kept (entry_at ws j)
           (λ same.
-          let none = lies Absent e j l lives same in
+          let none = lies None e j l lives same in
           let z : ◌≡◌ {A = ℕ} 0 1 = cc in
           omega arith)))
 
@@ -132,7 +128,7 @@ module _ (most : ℕ) (sp : List ℕ) (s : SpaceOf most sp) (token : ℕ) where
       answered_as most sp _ other s (lookup_keeps most sp s token) (used_by token) (λ x. same_token (eqb (token_of x) token) x)
       (λ x is. lookup_holds x)
 
-  pub found_again : (x : CapabilityEntry) → (looked_up sp token).got ≡ Entry x → (looked_up (counted sp token) token).got ≡ Entry (used x)
+  pub found_again : (x : CapabilityEntry) → (looked_up sp token).got ≡ Some x → (looked_up (counted sp token) token).got ≡ Some (used x)
   found_again x got =
       let (h, is) = (got_exactly most sp s token x).0 got in
       counted_answers token ∙ ap (got_as (used_by token)) got ∙ rw (eq-eqb (token_of x) token is)
@@ -140,8 +136,8 @@ module _ (most : ℕ) (sp : List ℕ) (s : SpaceOf most sp) (token : ℕ) where
   pub others_as_before_lookup : (other : ℕ) → other ≢ token → (looked_up (counted sp token) other).got ≡ (looked_up sp other).got
   others_as_before_lookup other d = counted_answers other ∙ go (looked_up sp other).got refl
     where
-      go : (g : Got) → (looked_up sp other).got ≡ g → got_as (used_by token) g ≡ g
-      go (Entry x) e =
+      go : (g : Option CapabilityEntry) → (looked_up sp other).got ≡ g → got_as (used_by token) g ≡ g
+      go (Some x) e =
           let (h, is) = (got_exactly most sp s other x).0 e in
-          ap Entry (sym (other_kept x (λ same. d (sym is ∙ same))))
-      go Nothing e = refl
+          ap Some (sym (other_kept x (λ same. d (sym is ∙ same))))
+      go None e = refl

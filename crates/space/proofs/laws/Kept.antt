@@ -1,12 +1,10 @@
 -- Every call keeps a sound space sound.
-use Rattle.std.proofs.Common.{◌≡◌, ℕ, ◌*◌, ◌^◌, ◌<◌, ◌≤◌, true, List, length, sym, refl, ap, ◌∙◌, subst, arith, length-drop, length-set}
+use Rattle.std.proofs.Common.{◌≡◌, ℕ, ◌*◌, ◌^◌, ◌<◌, ◌≤◌, true, List, length, sym, refl, ap, ◌∙◌, subst, arith, length-drop, length-set, Option, None, Some}
 use Rattle.base.specs.Arith.{next_mono}
 use Rattle.table.specs.Slots.{is_live, id_of}
 use Rattle.table.specs.Insert.{Table, slots_for}
 use Rattle.table.specs.Sound.{Sound}
 use Rattle.table.specs.declared.CapabilityEntry.{CapabilityEntry}
-use Rattle.table.specs.declared.Found.{Found}
-use Rattle.table.specs.declared.Found.TheVariants.{At, Absent}
 use Rattle.table.proofs.laws.Copy.{copy_is_sound, copy_length}
 use Rattle.table.proofs.laws.Exact.{search_at, absent_exactly_when_none}
 use Rattle.table.proofs.laws.Insert.{insert_keeps_sound, insert_length}
@@ -95,19 +93,19 @@ module _ (most : ℕ) (sp : List ℕ) (s : SpaceOf most sp) where
   unfolding removed_token
   remove_keeps token = go (exactly sp token) refl
     where
-      go : (f : Found) → exactly sp token ≡ f → SpaceOf most (removed_found sp f)
-      go (At i) e = let (l, live, same) = search_at _ _ _ i (exactly_at sp token i e).0 in removed_keeps i l live
-      go Absent e = s
+      go : (f : Option ℕ) → exactly sp token ≡ f → SpaceOf most (removed_found sp f)
+      go (Some i) e = let (l, live, same) = search_at _ _ _ i (exactly_at sp token i e).0 in removed_keeps i l live
+      go None e = s
 
   pub lookup_keeps : (token : ℕ) → SpaceOf most (counted sp token)
   unfolding counted
   lookup_keeps token = go (exactly sp token)
     where
-      go : (f : Found) → SpaceOf most (counted_at sp f)
-      go (At i) =
+      go : (f : Option ℕ) → SpaceOf most (counted_at sp f)
+      go (Some i) =
           kept _ _ (view_hit sp fits i) (simp length-set) s.sound.coded s.sound.quota
           (uses_sound (slot_words sp) i _ most (table_of sp) s.sound.table)
-      go Absent = kept _ _ (view_miss sp fits) (simp length-set) s.sound.coded s.sound.quota s.sound.table
+      go None = kept _ _ (view_miss sp fits) (simp length-set) s.sound.coded s.sound.quota s.sound.table
 
   pub clear_keeps : SpaceOf most (cleared sp)
   unfolding cleared with_counts

@@ -1,10 +1,9 @@
 -- A space as its users see it, and what each change leaves of that. What a law does not name anew is as it was: so no call ever changes
 -- a quota, only lookups count, and only the table's own calls change the table.
-use Rattle.std.proofs.Common.{◌≡◌, ℕ, suc, ◌+◌, ◌*◌, ◌%◌, ◌^◌, ◌≤◌, List, [], ◌∷◌, length, get_or, set, refl, ap, ◌∙◌, add_assoc, arith, length-set, get_or-drop}
+use Rattle.std.proofs.Common.{◌≡◌, ℕ, suc, ◌+◌, ◌*◌, ◌%◌, ◌^◌, ◌≤◌, List, [], ◌∷◌, length, get_or, set, refl, ap, ◌∙◌, add_assoc, arith, length-set, get_or-drop, None, Some}
 use Rattle.table.specs.Insert.{Table, none}
 use Rattle.table.specs.declared.CapabilityEntry.{CapabilityEntry}
 use Rattle.table.specs.declared.CapTable.{CapTable}
-use Rattle.table.specs.declared.Found.TheVariants.{At, Absent}
 use Rattle.space.specs.Words.{quota_of, generation_of, hits_of, misses_of, table_of, slot_words, with_counts, with_table}
 use Rattle.space.specs.Lookup.{up, counted_at}
 use Rattle.space.specs.Change.{inserted_table, inserted, removed_table, removed, cleared, next_generation}
@@ -96,7 +95,7 @@ module _ (sp : List ℕ) (fits : 8 ≤ length sp) where
 module _ (sp : List ℕ) (fits : 8 ≤ length sp) where
   -- ---- the calls
 
-  pub view_hit : (i : ℕ) → view (counted_at sp (At i))
+  pub view_hit : (i : ℕ) → view (counted_at sp (Some i))
       ≡ with_slots (table_of sp) (used_at (slot_words sp) i) (with_hits (up (hits_of sp)) (view sp))
   view_hit i =
       rw (add_assoc 8 (4 * i) 2, ← get_or-drop 8 sp (4 * i + 2) 0)
@@ -104,7 +103,7 @@ module _ (sp : List ℕ) (fits : 8 ≤ length sp) where
       ∙ ap (λ (v : View). with_slots v.counts (set v.words (4 * i + 2) (up (get_or (slot_words sp) (4 * i + 2) 0))) v)
       (view_word2 sp fits (up (hits_of sp))))
 
-  pub view_miss : view (counted_at sp Absent) ≡ with_misses (up (misses_of sp)) (view sp)
+  pub view_miss : view (counted_at sp None) ≡ with_misses (up (misses_of sp)) (view sp)
   view_miss = view_word3 sp fits (up (misses_of sp))
 
   pub view_inserted :

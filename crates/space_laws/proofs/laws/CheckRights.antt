@@ -1,5 +1,5 @@
 -- `check_rights` in a user's words: its value is 1 exactly where the space holds the token with all the rights required, and else 0.
-use Rattle.std.proofs.Common.{Bool, true, false, List, ◌↔◌, ◌≡◌, refl, ℕ, ◌<◌, arith}
+use Rattle.std.proofs.Common.{Bool, true, false, List, ◌↔◌, ◌≡◌, refl, ℕ, ◌<◌, arith, Option, None, Some}
 use Rattle.base.specs.Below.{one}
 use Rattle.base.specs.Exactly.{one_exactly}
 use Rattle.space.specs.Lookup.{looked_up}
@@ -8,8 +8,6 @@ use Rattle.steps.specs.Steps.{space_of}
 use Rattle.steps.specs.declared.Reply.{Reply}
 use Rattle.steps.proofs.laws.Entered.{space_by_cases}
 use Rattle.table.specs.declared.CapabilityEntry.{CapabilityEntry}
-use Rattle.table.specs.declared.Got.{Got}
-use Rattle.table.specs.declared.Got.TheVariants.{Entry, Nothing}
 use Rattle.token.specs.Rights.{holds}
 use Rattle.world.specs.Numbers.{numbers_of}
 use Rattle.space_reads.specs.Calls.{check_rights_out}
@@ -17,29 +15,29 @@ use Rattle.space_reads.specs.Replies.{held_reply}
 use Rattle.space_laws.proofs.laws.Holding.{Holding}
 
 -- An entry found, with the rights.
-abbrev Granted : ℕ → Got → Type 0
-Granted required got = (x : CapabilityEntry) × ((got ≡ Entry x) × (holds x.rights.0 required ≡ true))
+abbrev Granted : ℕ → Option CapabilityEntry → Type 0
+Granted required got = (x : CapabilityEntry) × ((got ≡ Some x) × (holds x.rights.0 required ≡ true))
 
-held_exactly : (required : ℕ) (got : Got) (visits : ℕ) → ((held_reply required got visits).value ≡ 1) ↔ Granted required got
-held_exactly required (Entry e) visits = (
+held_exactly : (required : ℕ) (got : Option CapabilityEntry) (visits : ℕ) → ((held_reply required got visits).value ≡ 1) ↔ Granted required got
+held_exactly required (Some e) visits = (
   λ is. (e, (refl, (one_exactly (holds e.rights.0 required)).0 is)),
   λ (x, (same, h)). let is : e ≡ x = cc in (one_exactly (holds e.rights.0 required)).1 (rw is h),
 )
-held_exactly required Nothing visits = (
+held_exactly required None visits = (
   λ is. absurd (omega arith),
   λ (x, (same, h)). let z : ◌≡◌ {A = ℕ} 0 1 = cc in absurd (omega arith),
 )
 
-held_or_not : (required : ℕ) (got : Got) (visits : ℕ) → (held_reply required got visits).value < 2
-held_or_not required (Entry e) visits = below (holds e.rights.0 required)
+held_or_not : (required : ℕ) (got : Option CapabilityEntry) (visits : ℕ) → (held_reply required got visits).value < 2
+held_or_not required (Some e) visits = below (holds e.rights.0 required)
   where
     below : (b : Bool) → one b < 2
     below true = omega arith
     below false = omega arith
-held_or_not required Nothing visits = omega arith
+held_or_not required None visits = omega arith
 
 module _ (mem : List ℕ) (s token required : ℕ) where
-  abbrev got : Got
+  abbrev got : Option CapabilityEntry
   got = (looked_up (space_of (numbers_of mem) s mem) token).got
 
   abbrev Held : Type 0

@@ -1,6 +1,6 @@
 -- An accepted insert is found, and stays found until it is removed, cleared or copied over: every other call leaves the entry with its
 -- token, object and rights, and with its uses but for a lookup of that very token.
-use Rattle.std.proofs.Common.{List, ◌≢◌, ◌⊎◌, inl, inr, ⊎_elim, ◌≡◌, refl, sym, ap, subst, ◌∙◌, ℕ, ◌%◌, ◌^◌, ◌<◌, arith}
+use Rattle.std.proofs.Common.{List, ◌≢◌, ◌⊎◌, inl, inr, ⊎_elim, ◌≡◌, refl, sym, ap, subst, ◌∙◌, ℕ, ◌%◌, ◌^◌, ◌<◌, arith, Some}
 use Rattle.std.proofs.Math.Decide.{ℕ_discrete}
 use Rattle.std.proofs.Math.Logic.{by_cases}
 use Rattle.std.proofs.Math.Logic.Iff
@@ -22,7 +22,6 @@ use Rattle.steps.proofs.laws.Ready.{is_space}
 use Rattle.steps.proofs.laws.SpaceSteps.{lookup_step_kept, next_step_kept, insert_step_kept, remove_step_kept}
 use Rattle.steps.proofs.laws.TakeStep.{take_step_kept}
 use Rattle.table.specs.declared.CapabilityEntry.{CapabilityEntry}
-use Rattle.table.specs.declared.Got.TheVariants.{Entry}
 use Rattle.world.specs.Numbers.{numbers_of}
 use Rattle.world.specs.Sound.{Sound}
 use Rattle.world.specs.declared.Numbers.{Numbers}
@@ -43,7 +42,7 @@ use Rattle.space_laws.proofs.laws.Ways.{own_token, made_by_cases, create_by_case
 pub record Holding (mem : List ℕ) (s token : ℕ) (x : CapabilityEntry) : Type 0 where
   pub sound : Sound mem
   pub valid : s < (numbers_of mem).spaces
-  pub found : (looked_up (space_of (numbers_of mem) s mem) token).got ≡ Entry x
+  pub found : (looked_up (space_of (numbers_of mem) s mem) token).got ≡ Some x
 
 -- Then a lookup answers the entry.
 pub holding_answers :
@@ -59,11 +58,11 @@ holding_answers mem s token x h =
 -- The space of a memory that was kept.
 holding_after :
     (mem after : List ℕ) (s token : ℕ) (x : CapabilityEntry) → Kept (numbers_of mem) mem after → s < (numbers_of mem).spaces
-    → (looked_up (space_of (numbers_of mem) s after) token).got ≡ Entry x → Holding after s token x
+    → (looked_up (space_of (numbers_of mem) s after) token).got ≡ Some x → Holding after s token x
 holding_after mem after s token x kept valid found = record {
   sound = kept_sound mem after kept;
   valid = subst (λ (d : Numbers). s < d.spaces) (sym kept.numbers) valid;
-  found = subst (λ (d : Numbers). (looked_up (space_of d s after) token).got ≡ Entry x) (sym kept.numbers) found;
+  found = subst (λ (d : Numbers). (looked_up (space_of d s after) token).got ≡ Some x) (sym kept.numbers) found;
 }
 
 pub accepted_is_found :
@@ -103,7 +102,7 @@ module _ (mem : List ℕ) (s token : ℕ) (x : CapabilityEntry) (h : Holding mem
   -- A step of any space, where it leaves the entry if it is this one.
   pub stays :
       (s' : ℕ) (after sp' : List ℕ) (y : CapabilityEntry) → Kept d mem after → Step d s' mem after sp'
-      → (s ≡ s' → (looked_up sp' token).got ≡ Entry y) → (s ≢ s' → x ≡ y) → Holding after s token y
+      → (s ≡ s' → (looked_up sp' token).got ≡ Some y) → (s ≢ s' → x ≡ y) → Holding after s token y
   stays s' after sp' y kept st here there =
       by_cases (ℕ_discrete s s')
       (λ same.
@@ -111,7 +110,7 @@ module _ (mem : List ℕ) (s token : ℕ) (x : CapabilityEntry) (h : Holding mem
       (ap (λ k. (looked_up (space_of d k after) token).got) same ∙ ap (λ sp. (looked_up sp token).got) st.here ∙ here same))
       (λ apart.
       holding_after mem after s token y kept h.valid
-      (ap (λ sp. (looked_up sp token).got) (st.only.others s h.valid apart) ∙ h.found ∙ ap Entry (there apart)))
+      (ap (λ sp. (looked_up sp token).got) (st.only.others s h.valid apart) ∙ h.found ∙ ap Some (there apart)))
 
   -- Any call that changes only another space.
   pub stays_elsewhere : (s' : ℕ) (after : List ℕ) → Kept d mem after → OnlySpace d s' mem after → s ≢ s' → Holding after s token x
@@ -204,7 +203,7 @@ module _ (mem : List ℕ) (s token : ℕ) (x : CapabilityEntry) (h : Holding mem
       subst (λ (out : Left Reply). Holding out.memory s token (used x)) (sym (space_called _ mem _ h.sound s h.valid)) used_step
 
   -- Any insert: one of the same id is refused.
-  still_there : (e : CapabilityEntry) → e.rights.0 < 2 ^ 32 → (looked_up (insert_out sp e).words token).got ≡ Entry x
+  still_there : (e : CapabilityEntry) → e.rights.0 < 2 ^ 32 → (looked_up (insert_out sp e).words token).got ≡ Some x
   still_there e rights =
       by_cases (ℕ_discrete (number_of (insert_out sp e).answer) 0)
       (λ zero.
@@ -236,7 +235,7 @@ module _ (mem : List ℕ) (s token : ℕ) (x : CapabilityEntry) (h : Holding mem
       (λ same. ap (λ k. (looked_up (next_generation (space_of d k mem)) token).got) (sym same) ∙ as_before)
       (λ apart. refl))
     where
-      as_before : (looked_up (next_generation sp) token).got ≡ Entry x
+      as_before : (looked_up (next_generation sp) token).got ≡ Some x
       as_before =
           answered_as_before d.most sp _ token of_space (next_keeps d.most sp of_space)
           (λ x is. has_as _ _ x (view_next sp (fits d.most sp of_space)) Iff.rfl)

@@ -1,6 +1,6 @@
 -- The calls on a whole space in a user's words: it says its facts, a lookup only counts, a clear leaves nothing, a copy answers as its
 -- source did.
-use Rattle.std.proofs.Common.{List, ◌≡◌, sym, ap, subst, ◌∙◌, ℕ, ◌+◌, ◌%◌, ◌^◌, ◌<◌, arith}
+use Rattle.std.proofs.Common.{List, ◌≡◌, sym, ap, subst, ◌∙◌, ℕ, ◌+◌, ◌%◌, ◌^◌, ◌<◌, arith, None, Some}
 use Rattle.std.proofs.Math.Logic.Iff
 use Rattle.answers.specs.Number.{number_of}
 use Rattle.answers.specs.declared.Answer.TheVariants.{Done}
@@ -17,8 +17,6 @@ use Rattle.steps.specs.Steps.{space_of, facts_of, copy_step}
 use Rattle.steps.proofs.laws.Kept.{Kept, kept_sound, kept_trans}
 use Rattle.steps.proofs.laws.Ready.{is_space}
 use Rattle.steps.proofs.laws.SpaceSteps.{clear_step_kept, next_step_kept}
-use Rattle.table.specs.declared.Found.TheVariants.{At, Absent}
-use Rattle.table.specs.declared.Got.TheVariants.{Nothing}
 use Rattle.world.specs.Numbers.{numbers_of}
 use Rattle.world.specs.Sound.{SoundAt, Sound}
 use Rattle.world.specs.declared.Numbers.{Numbers}
@@ -49,14 +47,14 @@ module _ (mem : List ℕ) (sound : Sound mem) (s : ℕ) (valid : s < (numbers_of
 
   -- Found in slot i, it counts a hit and a use of that slot's entry.
   pub lookup_counts_a_hit :
-      (i : ℕ) → exactly (space_of (numbers_of mem) s mem) token ≡ At i
+      (i : ℕ) → exactly (space_of (numbers_of mem) s mem) token ≡ Some i
       → view (space_of (numbers_of mem) s (lookup_out mem s token).memory)
       ≡ with_slots (table_of sp) (used_at (slot_words sp) i) (with_hits (up (hits_of sp)) (view sp))
   lookup_counts_a_hit i at = counts ∙ hit_counts d.most sp (is_space d mem sound s valid) token i at
 
   -- Not found, it counts a miss.
   pub lookup_counts_a_miss :
-      exactly (space_of (numbers_of mem) s mem) token ≡ Absent
+      exactly (space_of (numbers_of mem) s mem) token ≡ None
       → view (space_of (numbers_of mem) s (lookup_out mem s token).memory) ≡ with_misses (up (misses_of sp)) (view sp)
   lookup_counts_a_miss absent = counts ∙ miss_counts d.most sp (is_space d mem sound s valid) token absent
 
@@ -75,7 +73,7 @@ says_fact fact mem s sound there = ap (λ (f : FactsReply). replied f.answer (fa
 pub record Empty (mem : List ℕ) (s : ℕ) : Type 0 where
   pub no_slots : capacity_out mem s ≡ done 0
   pub none_used : used_out mem s ≡ done 0
-  pub none_found : (token : ℕ) → (looked_up (space_of (numbers_of mem) s mem) token).got ≡ Nothing
+  pub none_found : (token : ℕ) → (looked_up (space_of (numbers_of mem) s mem) token).got ≡ None
 
 -- By the space's words.
 module _ (mem after : List ℕ) (s : ℕ) (sp : List ℕ) (kept : Kept (numbers_of mem) mem after) (valid : s < (numbers_of mem).spaces) where
@@ -83,7 +81,7 @@ module _ (mem after : List ℕ) (s : ℕ) (sp : List ℕ) (kept : Kept (numbers_
   before = numbers_of mem
 
   emptied :
-      space_of before s after ≡ sp → (table_of sp).slots ≡ 0 → (table_of sp).full ≡ 0 → ((token : ℕ) → (looked_up sp token).got ≡ Nothing)
+      space_of before s after ≡ sp → (table_of sp).slots ≡ 0 → (table_of sp).full ≡ 0 → ((token : ℕ) → (looked_up sp token).got ≡ None)
       → Empty after s
   unfolding facts_of
   emptied is slots full none =
@@ -97,14 +95,14 @@ module _ (mem after : List ℕ) (s : ℕ) (sp : List ℕ) (kept : Kept (numbers_
       }
 
 module _ (most : ℕ) (sp : List ℕ) (is : SpaceOf most sp) where
-  none_held : (token : ℕ) → (looked_up (cleared sp) token).got ≡ Nothing
+  none_held : (token : ℕ) → (looked_up (cleared sp) token).got ≡ None
   none_held token = (nothing_exactly most _ (clear_keeps most sp is) token).1 (λ x h same. clear_holds_nothing most sp is x h)
 
   -- The generation is no part of the table.
   next_empty : view (next_generation (cleared sp)) ≡ with_generation ((generation_of (cleared sp) + 1) % 2 ^ 8) (view (cleared sp))
   next_empty = view_next (cleared sp) (fits most _ (clear_keeps most sp is))
 
-  none_next : (token : ℕ) → (looked_up (next_generation (cleared sp)) token).got ≡ Nothing
+  none_next : (token : ℕ) → (looked_up (next_generation (cleared sp)) token).got ≡ None
   none_next token =
       answered_as_before most (cleared sp) _ token (clear_keeps most sp is) (next_keeps most _ (clear_keeps most sp is))
       (λ x same. has_as _ _ x next_empty Iff.rfl)

@@ -1,5 +1,5 @@
 -- 26 is answered exactly on memory that is not sound, 20 exactly on a sound one for a space number of S or more.
-use Rattle.std.proofs.Common.{List, ◌↔◌, ◌≢◌, ◌⊎◌, inl, inr, ⊎_elim, ◌≡◌, refl, ℕ, ◌≤◌, arith}
+use Rattle.std.proofs.Common.{List, ◌↔◌, ◌≢◌, ◌⊎◌, inl, inr, ⊎_elim, ◌≡◌, refl, ℕ, ◌≤◌, arith, Option, None, Some}
 use Rattle.answers.specs.Number.{number_of}
 use Rattle.answers.specs.declared.Answer.{Answer}
 use Rattle.answers.specs.declared.Answer.TheVariants.{Done, AlreadyExists, NotFound, IdExhausted, SpaceQuota, SpaceIds, BadSpace, BadField, BadWorld}
@@ -13,10 +13,6 @@ use Rattle.steps.specs.declared.Taken.TheVariants.{Id, Exhausted}
 use Rattle.table.specs.Copy.{nth_of}
 use Rattle.table.specs.Insert.{live_entries}
 use Rattle.table.specs.declared.CapabilityEntry.{CapabilityEntry}
-use Rattle.table.specs.declared.Got.{Got}
-use Rattle.table.specs.declared.Got.TheVariants.{Entry, Nothing}
-use Rattle.table.specs.declared.Nth.{Nth}
-use Rattle.table.specs.declared.Nth.TheVariants as nth
 use Rattle.world.specs.Numbers.{numbers_of}
 use Rattle.world.specs.Sound.{Sound}
 use Rattle.world.specs.declared.Numbers.{Numbers}
@@ -35,21 +31,21 @@ use Rattle.space_laws.proofs.laws.Ways.{own_token, made_by_cases, create_by_case
 
 -- ---- the calls' own answers
 
-inner_found : (value : CapabilityEntry → ℕ) (got : Got) (visits : ℕ) → Inner (found_reply value got visits).answer
-inner_found value (Entry e) visits = inner_0
-inner_found value Nothing visits = inner NotFound refl refl
+inner_found : (value : CapabilityEntry → ℕ) (got : Option CapabilityEntry) (visits : ℕ) → Inner (found_reply value got visits).answer
+inner_found value (Some e) visits = inner_0
+inner_found value None visits = inner NotFound refl refl
 
-inner_held : (required : ℕ) (got : Got) (visits : ℕ) → Inner (held_reply required got visits).answer
-inner_held required (Entry e) visits = inner_0
-inner_held required Nothing visits = inner_0
+inner_held : (required : ℕ) (got : Option CapabilityEntry) (visits : ℕ) → Inner (held_reply required got visits).answer
+inner_held required (Some e) visits = inner_0
+inner_held required None visits = inner_0
 
-inner_entry : (got : Got) (visits : ℕ) → Inner (entry_reply got visits).answer
-inner_entry (Entry e) visits = inner_0
-inner_entry Nothing visits = inner NotFound refl refl
+inner_entry : (got : Option CapabilityEntry) (visits : ℕ) → Inner (entry_reply got visits).answer
+inner_entry (Some e) visits = inner_0
+inner_entry None visits = inner NotFound refl refl
 
-inner_nth : (n : Nth) → Inner (nth_reply n).answer
-inner_nth (nth.Entry e) = inner_0
-inner_nth nth.Past = inner NotFound refl refl
+inner_nth : (n : Option CapabilityEntry) → Inner (nth_reply n).answer
+inner_nth (Some e) = inner_0
+inner_nth None = inner NotFound refl refl
 
 inner_insert : (sp : List ℕ) (e : CapabilityEntry) → Inner (insert_out sp e).answer
 inner_insert sp e =

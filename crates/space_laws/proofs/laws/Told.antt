@@ -1,6 +1,6 @@
 -- When each answer of a call of a space is given, once the memory is sound and the space is there (Refused.antt says 26 and 20): 21, 11, 7,
 -- 8, 9, 12 and 0, each exactly in its stated case. `used` and `total_caps` are the table's `full`, its live entries.
-use Rattle.std.proofs.Common.{List, ◌↔◌, ◌≡◌, refl, ℕ, ◌%◌, ◌^◌, ◌≤◌, ◌<◌, arith, leb}
+use Rattle.std.proofs.Common.{List, ◌↔◌, ◌≡◌, refl, ℕ, ◌%◌, ◌^◌, ◌≤◌, ◌<◌, arith, leb, Option, None, Some}
 use Rattle.answers.specs.declared.Answer.{Answer}
 use Rattle.answers.specs.declared.Answer.TheVariants.{Done, AlreadyExists, NotFound, IdExhausted, SpaceQuota, SpaceIds, BadSpace, BadField, BadWorld}
 use Rattle.base.specs.Choose.{when}
@@ -25,8 +25,6 @@ use Rattle.table.specs.Copy.{nth_of}
 use Rattle.table.specs.Insert.{live_entries}
 use Rattle.table.specs.Slots.{id_of}
 use Rattle.table.specs.declared.CapabilityEntry.{CapabilityEntry}
-use Rattle.table.specs.declared.Got.{Got}
-use Rattle.table.specs.declared.Got.TheVariants.{Entry, Nothing}
 use Rattle.token.specs.Token.{packed, made}
 use Rattle.world.specs.Numbers.{numbers_of, next_of, recycled_of}
 use Rattle.world.specs.Sound.{Sound}
@@ -71,9 +69,9 @@ module _ (mem : List ℕ) (s : ℕ) where
   unfolding check_rights_out
   check_rights_told_0 token required = told_0 answer_of _ mem _ (λ a. refl) (always (looked_up sp token).got (looked_up sp token).visits) s
     where
-      always : (got : Got) (visits : ℕ) → (held_reply required got visits).answer ≡ Done
-      always (Entry e) visits = refl
-      always Nothing visits = refl
+      always : (got : Option CapabilityEntry) (visits : ℕ) → (held_reply required got visits).answer ≡ Done
+      always (Some e) visits = refl
+      always None visits = refl
 
   pub increment_told_0 : ((increment_out mem s).reply.answer ≡ Done) ↔ (Sound mem × (s < (numbers_of mem).spaces))
   unfolding increment_out

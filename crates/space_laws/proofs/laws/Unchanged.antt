@@ -1,6 +1,6 @@
 -- A refusal changes nothing: any answer but 0 leaves the memory as it was. Two exceptions: a lookup that found nothing (8) is counted all
 -- the same, and an id that a space's create took is lost where its entry is refused (7, 11).
-use Rattle.std.proofs.Common.{List, ◌≢◌, ◌≡◌, refl, sym, ap, ◌∙◌, ℕ, ◌<◌, arith}
+use Rattle.std.proofs.Common.{List, ◌≢◌, ◌≡◌, refl, sym, ap, ◌∙◌, ℕ, ◌<◌, arith, Option, None, Some}
 use Rattle.answers.specs.Number.{number_of}
 use Rattle.answers.specs.declared.Answer.{Answer}
 use Rattle.answers.specs.declared.Answer.TheVariants.{Done, SpaceIds}
@@ -16,10 +16,6 @@ use Rattle.base.specs.Cases.{either}
 use Rattle.steps.proofs.laws.Taking.{take_by_cases, none_taken}
 use Rattle.table.specs.Walk.{got_at}
 use Rattle.table.specs.declared.CapabilityEntry.{CapabilityEntry}
-use Rattle.table.specs.declared.Found.{Found}
-use Rattle.table.specs.declared.Found.TheVariants.{At, Absent}
-use Rattle.table.specs.declared.Got.{Got}
-use Rattle.table.specs.declared.Got.TheVariants.{Entry, Nothing}
 use Rattle.world.specs.Numbers.{numbers_of}
 use Rattle.world.specs.Regions.{space, start_of, size_of}
 use Rattle.world.specs.Sound.{Sound}
@@ -47,15 +43,15 @@ module _ (d : Numbers) (s : ℕ) (mem : List ℕ) where
   insert_undone : (e : CapabilityEntry) → (insert_out sp e).answer ≢ Done → insert_step d s e mem ≡ mem
   insert_undone e not_done = refused_insert d s mem e (λ z. not_done (zero_is_done sp e z))
 
-  nothing_removed : (token : ℕ) → (looked_up sp token).got ≡ Nothing → removed_token sp token ≡ sp
+  nothing_removed : (token : ℕ) → (looked_up sp token).got ≡ None → removed_token sp token ≡ sp
   unfolding looked_up removed_token
   nothing_removed token = go (exactly sp token)
     where
-      go : (f : Found) → got_at (slot_words sp) f ≡ Nothing → removed_found sp f ≡ sp
-      go (At i) e = let z : ◌≡◌ {A = ℕ} 0 1 = cc in absurd (omega arith)
-      go Absent e = refl
+      go : (f : Option ℕ) → got_at (slot_words sp) f ≡ None → removed_found sp f ≡ sp
+      go (Some i) e = let z : ◌≡◌ {A = ℕ} 0 1 = cc in absurd (omega arith)
+      go None e = refl
 
-  absent_remove : (token : ℕ) → (looked_up sp token).got ≡ Nothing → remove_step d s token mem ≡ mem
+  absent_remove : (token : ℕ) → (looked_up sp token).got ≡ None → remove_step d s token mem ≡ mem
   absent_remove token none =
       sym (remove_absent d s mem token _ _ refl refl (ap is_entry none))
       ∙ on_part_same (start_of d (space s)) (size_of d (space s)) (λ sp. removed_token sp token) mem (nothing_removed token none)
@@ -65,9 +61,9 @@ module _ (d : Numbers) (s : ℕ) (mem : List ℕ) where
       → remove_step d s token mem ≡ mem
   missed_remove value token visits = go (looked_up sp token).got refl
     where
-      go : (g : Got) → (looked_up sp token).got ≡ g → (found_reply value g visits).answer ≢ Done → remove_step d s token mem ≡ mem
-      go (Entry e) is not_done = absurd (not_done refl)
-      go Nothing is not_done = absent_remove token is
+      go : (g : Option CapabilityEntry) → (looked_up sp token).got ≡ g → (found_reply value g visits).answer ≢ Done → remove_step d s token mem ≡ mem
+      go (Some e) is not_done = absurd (not_done refl)
+      go None is not_done = absent_remove token is
 
 -- ---- the calls
 

@@ -1,6 +1,6 @@
 -- A refusal's value is 0: where the answer of a call of a space is not 0, a reply has the value 0, a reply with an entry no entry, and all
 -- that a space says of itself is zeros. What is added, the visits of a search that found nothing, is answered all the same.
-use Rattle.std.proofs.Common.{List, ◌≢◌, ◌≡◌, refl, ℕ}
+use Rattle.std.proofs.Common.{List, ◌≢◌, ◌≡◌, refl, ℕ, Option, None, Some}
 use Rattle.answers.specs.declared.Answer.{Answer}
 use Rattle.answers.specs.declared.Answer.TheVariants.{Done, BadSpace, BadWorld}
 use Rattle.space.specs.Change.{InsertOut, insert_out}
@@ -19,10 +19,6 @@ use Rattle.steps.proofs.laws.Entered.{world_by_cases, space_by_cases}
 use Rattle.table.specs.Copy.{nth_of}
 use Rattle.table.specs.Insert.{live_entries}
 use Rattle.table.specs.declared.CapabilityEntry.{CapabilityEntry}
-use Rattle.table.specs.declared.Got.{Got}
-use Rattle.table.specs.declared.Got.TheVariants.{Entry, Nothing}
-use Rattle.table.specs.declared.Nth.{Nth}
-use Rattle.table.specs.declared.Nth.TheVariants as nth
 use Rattle.world.specs.Numbers.{numbers_of}
 use Rattle.world.specs.declared.Numbers.{Numbers}
 use Rattle.space_calls.specs.Calls.{insert_call_out, remove_out, increment_out, clear_out, revoke_all_out, copy_out, taken_reply, alloc_out, create_out, revoke_made, revoke_out}
@@ -52,21 +48,21 @@ refused_or_made P refusing mem call s none own =
 done_none : (value : ℕ) → NoValue (done value)
 done_none value not_0 = absurd (not_0 refl)
 
-found_none : (value : CapabilityEntry → ℕ) (got : Got) (visits : ℕ) → NoValue (found_reply value got visits)
-found_none value (Entry e) visits not_0 = absurd (not_0 refl)
-found_none value Nothing visits not_0 = refl
+found_none : (value : CapabilityEntry → ℕ) (got : Option CapabilityEntry) (visits : ℕ) → NoValue (found_reply value got visits)
+found_none value (Some e) visits not_0 = absurd (not_0 refl)
+found_none value None visits not_0 = refl
 
-held_none : (required : ℕ) (got : Got) (visits : ℕ) → NoValue (held_reply required got visits)
-held_none required (Entry e) visits not_0 = absurd (not_0 refl)
-held_none required Nothing visits not_0 = absurd (not_0 refl)
+held_none : (required : ℕ) (got : Option CapabilityEntry) (visits : ℕ) → NoValue (held_reply required got visits)
+held_none required (Some e) visits not_0 = absurd (not_0 refl)
+held_none required None visits not_0 = absurd (not_0 refl)
 
-entry_none : (got : Got) (visits : ℕ) → NoEntry (entry_reply got visits)
-entry_none (Entry e) visits not_0 = absurd (not_0 refl)
-entry_none Nothing visits not_0 = refl
+entry_none : (got : Option CapabilityEntry) (visits : ℕ) → NoEntry (entry_reply got visits)
+entry_none (Some e) visits not_0 = absurd (not_0 refl)
+entry_none None visits not_0 = refl
 
-nth_none : (n : Nth) → NoEntry (nth_reply n)
-nth_none (nth.Entry e) not_0 = absurd (not_0 refl)
-nth_none nth.Past not_0 = refl
+nth_none : (n : Option CapabilityEntry) → NoEntry (nth_reply n)
+nth_none (Some e) not_0 = absurd (not_0 refl)
+nth_none None not_0 = refl
 
 insert_none : (value : ℕ) (sp : List ℕ) (e : CapabilityEntry) → NoValue (insert_reply value (insert_out sp e))
 insert_none value sp e =

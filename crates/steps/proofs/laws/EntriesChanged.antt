@@ -1,6 +1,6 @@
 -- The ids with an entry in a space after each change of it: an accepted insert adds exactly the entry's id, a removal takes exactly the
 -- token's, a clear takes all, a copy has the source's, and nothing else changes any.
-use Rattle.std.proofs.Common.{◌≡◌, ℕ, ◌+◌, ◌%◌, ◌^◌, ◌<◌, Bool, true, false, not, eqb, ◌≢◌, ◌↔◌, List, sym, refl, ap, ◌∙◌, inl, inr, ⊎_elim, arith, eq-eqb, ne_eqb}
+use Rattle.std.proofs.Common.{◌≡◌, ℕ, ◌+◌, ◌%◌, ◌^◌, ◌<◌, Bool, true, false, not, eqb, ◌≢◌, ◌↔◌, List, sym, refl, ap, ◌∙◌, inl, inr, ⊎_elim, arith, eq-eqb, ne_eqb, None, Some}
 use Rattle.std.proofs.Math.Decide.{ℕ_discrete}
 use Rattle.std.proofs.Math.Logic.{by_cases}
 use Rattle.answers.specs.declared.Answer.TheVariants.{Done}
@@ -10,7 +10,6 @@ use Rattle.table.specs.Copy.{fresh}
 use Rattle.table.specs.Slots.{id_of}
 use Rattle.table.specs.Walk.{got}
 use Rattle.table.specs.declared.CapabilityEntry.{CapabilityEntry}
-use Rattle.table.specs.declared.Got.TheVariants.{Entry, Nothing}
 use Rattle.table.proofs.laws.Contents.{HoldsAs, lacks_iff}
 use Rattle.table.proofs.laws.Exact.{absent_exactly_when_none}
 use Rattle.table.proofs.laws.Found.{got_exactly}
@@ -101,12 +100,12 @@ module _ (most : ℕ) (sp : List ℕ) (s : SpaceOf most sp) (id : ℕ) where
   one_of_id : (x y : CapabilityEntry) → Has (view sp) x → Has (view sp) y → id_of x ≡ id_of y → x ≡ y
   one_of_id x y h g same =
       let find = got_exactly most (slot_words sp) (table_of sp) s.sound.table (id_of y) in
-      let a : got (slot_words sp) (table_of sp).slots (id_of y) ≡ Entry x = (find x).1 (h, same) in
-      let b : got (slot_words sp) (table_of sp).slots (id_of y) ≡ Entry y = (find y).1 (g, refl) in
+      let a : got (slot_words sp) (table_of sp).slots (id_of y) ≡ Some x = (find x).1 (h, same) in
+      let b : got (slot_words sp) (table_of sp).slots (id_of y) ≡ Some y = (find y).1 (g, refl) in
       cc
 
   pub removed_entries :
-      (token : ℕ) (x : CapabilityEntry) → (looked_up sp token).got ≡ Entry x
+      (token : ℕ) (x : CapabilityEntry) → (looked_up sp token).got ≡ Some x
       → one (has_entry (removed_token sp token) id) + one (eqb id (token % 2 ^ 48)) ≡ one (has_entry sp id)
   removed_entries token x found =
       let (h, is) = (held.got_exactly most sp s token x).0 found in
@@ -127,7 +126,7 @@ module _ (most : ℕ) (sp : List ℕ) (s : SpaceOf most sp) (id : ℕ) where
       )) in
       omega (arith, ap one as_before, ap one (ne_eqb id (token % 2 ^ 48) apart)))
 
-  pub missed_entries : (token : ℕ) → (looked_up sp token).got ≡ Nothing → has_entry (removed_token sp token) id ≡ has_entry sp id
+  pub missed_entries : (token : ℕ) → (looked_up sp token).got ≡ None → has_entry (removed_token sp token) id ≡ has_entry sp id
   missed_entries token nothing =
       same_held sp _ id
       (λ x is. (

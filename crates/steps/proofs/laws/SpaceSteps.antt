@@ -1,5 +1,5 @@
 -- Each step of a space keeps a sound memory: the space as its own laws say, and holders by as much as its entries come and go.
-use Rattle.std.proofs.Common.{◌≡◌, ℕ, ◌+◌, ◌-◌, ◌*◌, ◌%◌, ◌^◌, ◌<◌, ◌≤◌, Bool, true, false, eqb, List, length, sym, refl, ap, ◌∙◌, subst, true≢false, arith, eqb-true}
+use Rattle.std.proofs.Common.{◌≡◌, ℕ, ◌+◌, ◌-◌, ◌*◌, ◌%◌, ◌^◌, ◌<◌, ◌≤◌, Bool, true, false, eqb, List, length, sym, refl, ap, ◌∙◌, subst, true≢false, arith, eqb-true, Option, None, Some}
 use Rattle.answers.specs.Number.{number_of}
 use Rattle.base.specs.Below.{one}
 use Rattle.base.specs.Choose.{pick}
@@ -12,8 +12,6 @@ use Rattle.registry.specs.Words.{id_at, state_at, holders}
 use Rattle.table.specs.Insert.{live_entries}
 use Rattle.table.specs.Slots.{id_of}
 use Rattle.table.specs.declared.CapabilityEntry.{CapabilityEntry}
-use Rattle.table.specs.declared.Got.{Got}
-use Rattle.table.specs.declared.Got.TheVariants.{Entry, Nothing}
 use Rattle.table.proofs.laws.LiveEntries.{live_count_le}
 use Rattle.space.specs.Change.{insert_out, removed_token, cleared, next_generation}
 use Rattle.space.specs.Copy.{copied_space}
@@ -124,8 +122,8 @@ module _ (d : Numbers) (mem : List ℕ) (sound : SoundAt d mem) where
         after : List ℕ
         after = on_region d (space s) (λ sp. removed_token sp token) mem
 
-        go : (g : Got) → (looked_up sp token).got ≡ g → Kept d mem (pick (is_entry g) (release_step d n (token % 2 ^ 48) after) after)
-        go (Entry x) h =
+        go : (g : Option CapabilityEntry) → (looked_up sp token).got ≡ g → Kept d mem (pick (is_entry g) (release_step d n (token % 2 ^ 48) after) after)
+        go (Some x) h =
             step_kept d s (λ sp. removed_token sp token) (released d.places n (token % 2 ^ 48)) mem sound
             (record {
               valid = valid;
@@ -138,7 +136,7 @@ module _ (d : Numbers) (mem : List ℕ) (sound : SoundAt d mem) where
                     removed_entries d.most sp of_space (id_at rg k) token x h,
                   );
             })
-        go Nothing h =
+        go None h =
             quiet (λ sp. removed_token sp token) (remove_keeps d.most sp of_space token)
             (λ id. missed_entries d.most sp of_space id token h)
 

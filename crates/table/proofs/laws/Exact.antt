@@ -1,6 +1,6 @@
 -- A search is exact: what it finds is a live entry of that id, every live entry is found where it stands, and it says absent exactly
 -- when no live slot has the id.
-use Rattle.std.proofs.Common.{◌≡◌, refl, sym, ap, ◌∙◌, ◌≢◌, ◌↔◌, Bool, true, false, List, ℕ, ◌+◌, ◌<◌, arith, eqb-true, eq-eqb, ne_eqb, eqb}
+use Rattle.std.proofs.Common.{◌≡◌, refl, sym, ap, ◌∙◌, ◌≢◌, ◌↔◌, Bool, true, false, List, ℕ, ◌+◌, ◌<◌, arith, eqb-true, eq-eqb, ne_eqb, eqb, Option, None, Some}
 use Rattle.std.proofs.Math.Decide.{dec_lt}
 use Rattle.std.proofs.Math.Logic.{by_cases}
 use Rattle.base.specs.Choose.{pick}
@@ -9,19 +9,17 @@ use Rattle.table.specs.Slots.{is_empty, is_live, id_at}
 use Rattle.table.specs.Walk.{walk, stops, steps_to_stop, search}
 use Rattle.table.specs.Sound.{Met, Sound}
 use Rattle.table.specs.declared.CapTable.{CapTable}
-use Rattle.table.specs.declared.Found.{Found}
-use Rattle.table.specs.declared.Found.TheVariants.{At, Absent}
 use Rattle.table.proofs.laws.Walks.{walk_lt, walk_injective, search_stops, search_runs_out}
 
 -- ---- what a search finds
 
-picked : (b : Bool) (i j : ℕ) → pick b (At i) Absent ≡ At j → (b ≡ true) × (i ≡ j)
+picked : (b : Bool) (i j : ℕ) → pick b (Some i) None ≡ Some j → (b ≡ true) × (i ≡ j)
 picked true i j e = (refl, cc)
 picked false i j e = (cc, cc)
 
 -- It found slot i, so it stopped there.
 pub found_stops :
-    (ws : List ℕ) (slots id i : ℕ) → (search ws slots id).found ≡ At i
+    (ws : List ℕ) (slots id i : ℕ) → (search ws slots id).found ≡ Some i
     → (steps_to_stop ws slots id < slots) × (walk id slots (steps_to_stop ws slots id) ≡ i) × (is_live ws i ≡ true)
 found_stops ws slots id i e =
     by_cases (dec_lt n slots)
@@ -30,7 +28,7 @@ found_stops ws slots id i e =
     let (live, here) = picked (is_live ws (walk id slots n)) (walk id slots n) i (sym at_n ∙ e) in
     (l, here, rw here at live))
     (λ past.
-    let none : (search ws slots id).found ≡ Absent = ap (λ s. s.found) (search_runs_out ws slots id n refl (omega arith)) in
+    let none : (search ws slots id).found ≡ None = ap (λ s. s.found) (search_runs_out ws slots id n refl (omega arith)) in
     let z : ◌≡◌ {A = ℕ} 0 1 = cc in
     absurd (omega arith))
   where
@@ -38,7 +36,7 @@ found_stops ws slots id i e =
     n = steps_to_stop ws slots id
 
 pub search_at :
-    (ws : List ℕ) (slots id i : ℕ) → (search ws slots id).found ≡ At i → (i < slots) × (is_live ws i ≡ true) × (id_at ws i ≡ id)
+    (ws : List ℕ) (slots id i : ℕ) → (search ws slots id).found ≡ Some i → (i < slots) × (is_live ws i ≡ true) × (id_at ws i ≡ id)
 unfolding steps_to_stop
 search_at ws slots id i e =
     let (l, here, live) = found_stops ws slots id i e in
@@ -47,12 +45,12 @@ search_at ws slots id i e =
 
 -- Where no live slot has the id it finds nothing.
 pub none_absent :
-    (ws : List ℕ) (slots id : ℕ) → ((i : ℕ) → i < slots → is_live ws i ≡ true → id_at ws i ≢ id) → (search ws slots id).found ≡ Absent
+    (ws : List ℕ) (slots id : ℕ) → ((i : ℕ) → i < slots → is_live ws i ≡ true → id_at ws i ≢ id) → (search ws slots id).found ≡ None
 none_absent ws slots id others = go (search ws slots id).found refl
   where
-    go : (f : Found) → (search ws slots id).found ≡ f → (search ws slots id).found ≡ Absent
-    go (At i) e = let (l, live, same) = search_at ws slots id i e in absurd (others i l live same)
-    go Absent e = e
+    go : (f : Option ℕ) → (search ws slots id).found ≡ f → (search ws slots id).found ≡ None
+    go (Some i) e = let (l, live, same) = search_at ws slots id i e in absurd (others i l live same)
+    go None e = e
 
 -- ---- what is live is found, where it is met on its own walk and no other live slot has its id
 
@@ -85,7 +83,7 @@ module _
         (rw met.there (live_stops ws i live))
         (λ s l. other_passed ws (id_at ws i) (walk (id_at ws i) slots s) (met.before s l) (met_first s l))
 
-    pub met_found : search ws slots (id_at ws i) ≡ record { found = At i; visits = met.steps + 1 }
+    pub met_found : search ws slots (id_at ws i) ≡ record { found = Some i; visits = met.steps + 1 }
     met_found = search_stops ws slots (id_at ws i) met.steps met_steps met.within ∙ rw (met.there, live)
 
 -- ---- so a search is exact where live ids differ and every live slot is met
@@ -98,19 +96,19 @@ AllMet ws slots = (i : ℕ) → i < slots → is_live ws i ≡ true → Met ws s
 
 -- A search of the id of each live slot finds that slot.
 abbrev pub AllFound : List ℕ → ℕ → Type 0
-AllFound ws slots = (i : ℕ) → i < slots → is_live ws i ≡ true → (search ws slots (id_at ws i)).found ≡ At i
+AllFound ws slots = (i : ℕ) → i < slots → is_live ws i ≡ true → (search ws slots (id_at ws i)).found ≡ Some i
 
 module _ (ws : List ℕ) (slots : ℕ) (differ : Differ ws slots) (met : AllMet ws slots) where
   pub live_found : AllFound ws slots
   live_found i l live = ap (λ s. s.found) (met_found ws slots i live (met i l live) (λ j u h e. differ j i u l h live e))
 
-  pub at_exactly : (id i : ℕ) → ((search ws slots id).found ≡ At i) ↔ ((i < slots) × (is_live ws i ≡ true) × (id_at ws i ≡ id))
+  pub at_exactly : (id i : ℕ) → ((search ws slots id).found ≡ Some i) ↔ ((i < slots) × (is_live ws i ≡ true) × (id_at ws i ≡ id))
   at_exactly id i = (search_at ws slots id i, λ (l, live, same). rw same at (live_found i l live))
 
-  pub absent_exactly : (id : ℕ) → ((search ws slots id).found ≡ Absent) ↔ ((i : ℕ) → i < slots → is_live ws i ≡ true → id_at ws i ≢ id)
+  pub absent_exactly : (id : ℕ) → ((search ws slots id).found ≡ None) ↔ ((i : ℕ) → i < slots → is_live ws i ≡ true → id_at ws i ≢ id)
   absent_exactly id = (
     λ absent i l live same.
-        let found : (search ws slots id).found ≡ At i = (at_exactly id i).1 (l, live, same) in
+        let found : (search ws slots id).found ≡ Some i = (at_exactly id i).1 (l, live, same) in
         let z : ◌≡◌ {A = ℕ} 0 1 = cc in
         omega arith,
     none_absent ws slots id,
@@ -119,13 +117,13 @@ module _ (ws : List ℕ) (slots : ℕ) (differ : Differ ws slots) (met : AllMet 
 -- ---- a sound table
 
 module _ (most : ℕ) (ws : List ℕ) (t : CapTable) (sound : Sound most ws t) where
-  pub live_is_found : (i : ℕ) → i < t.slots → is_live ws i ≡ true → (search ws t.slots (id_at ws i)).found ≡ At i
+  pub live_is_found : (i : ℕ) → i < t.slots → is_live ws i ≡ true → (search ws t.slots (id_at ws i)).found ≡ Some i
   live_is_found = live_found ws t.slots sound.differ sound.met
 
   pub at_exactly_when_live :
-      (id i : ℕ) → ((search ws t.slots id).found ≡ At i) ↔ ((i < t.slots) × (is_live ws i ≡ true) × (id_at ws i ≡ id))
+      (id i : ℕ) → ((search ws t.slots id).found ≡ Some i) ↔ ((i < t.slots) × (is_live ws i ≡ true) × (id_at ws i ≡ id))
   at_exactly_when_live = at_exactly ws t.slots sound.differ sound.met
 
   pub absent_exactly_when_none :
-      (id : ℕ) → ((search ws t.slots id).found ≡ Absent) ↔ ((i : ℕ) → i < t.slots → is_live ws i ≡ true → id_at ws i ≢ id)
+      (id : ℕ) → ((search ws t.slots id).found ≡ None) ↔ ((i : ℕ) → i < t.slots → is_live ws i ≡ true → id_at ws i ≢ id)
   absent_exactly_when_none = absent_exactly ws t.slots sound.differ sound.met

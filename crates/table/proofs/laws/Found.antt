@@ -1,6 +1,6 @@
 -- What a sound table holds is found: a search of its id ends at a live slot with that entry, and `got` answers it. So the new entry is
 -- found after an insert, and what was there before a call and stays is found with every field as it was.
-use Rattle.std.proofs.Common.{◌≡◌, refl, sym, ap, ◌∙◌, ◌≢◌, ◌↔◌, inl, inr, true, List, ℕ, ◌*◌, ◌^◌, ◌<◌, ◌≤◌, arith, length}
+use Rattle.std.proofs.Common.{◌≡◌, refl, sym, ap, ◌∙◌, ◌≢◌, ◌↔◌, inl, inr, true, List, ℕ, ◌*◌, ◌^◌, ◌<◌, ◌≤◌, arith, length, Option, None, Some}
 use Rattle.table.specs.Slots.{is_live, id_of, entry_at}
 use Rattle.table.specs.Walk.{search, got_at, got}
 use Rattle.table.specs.Insert.{slots_for, rebuilt, room_for, insert_new}
@@ -8,9 +8,6 @@ use Rattle.table.specs.Copy.{fresh, copied}
 use Rattle.table.specs.Sound.{Sound}
 use Rattle.table.specs.declared.CapabilityEntry.{CapabilityEntry}
 use Rattle.table.specs.declared.CapTable.{CapTable}
-use Rattle.table.specs.declared.Found.{Found}
-use Rattle.table.specs.declared.Found.TheVariants.{At, Absent}
-use Rattle.table.specs.declared.Got.TheVariants.{Entry, Nothing}
 use Rattle.table.proofs.laws.Contents.{Holds, held_id, lacks_iff}
 use Rattle.table.proofs.laws.Copy.{copy_is_sound, copy_holds_fresh_entries}
 use Rattle.table.proofs.laws.Exact.{search_at, none_absent, live_is_found}
@@ -20,7 +17,7 @@ use Rattle.table.proofs.laws.Structure.{Lacks}
 
 pub record Finds (ws : List ℕ) (slots : ℕ) (x : CapabilityEntry) : Type 0 where
   pub slot : ℕ
-  pub found : (search ws slots (id_of x)).found ≡ At slot
+  pub found : (search ws slots (id_of x)).found ≡ Some slot
   pub live : is_live ws slot ≡ true
   pub same : entry_at ws slot ≡ x
 
@@ -37,26 +34,26 @@ held_is_found most ws t x sound h =
 -- ---- what `got` answers
 
 module _ (most : ℕ) (ws : List ℕ) (t : CapTable) (sound : Sound most ws t) where
-  pub held_is_got : (x : CapabilityEntry) → Holds ws t.slots x → got ws t.slots (id_of x) ≡ Entry x
+  pub held_is_got : (x : CapabilityEntry) → Holds ws t.slots x → got ws t.slots (id_of x) ≡ Some x
   unfolding got
-  held_is_got x h = let f = held_is_found most ws t x sound h in ap (got_at ws) f.found ∙ ap Entry f.same
+  held_is_got x h = let f = held_is_found most ws t x sound h in ap (got_at ws) f.found ∙ ap Some f.same
 
-  pub got_exactly : (id : ℕ) (x : CapabilityEntry) → (got ws t.slots id ≡ Entry x) ↔ (Holds ws t.slots x × (id_of x ≡ id))
+  pub got_exactly : (id : ℕ) (x : CapabilityEntry) → (got ws t.slots id ≡ Some x) ↔ (Holds ws t.slots x × (id_of x ≡ id))
   unfolding got
   got_exactly id x = (go (search ws t.slots id).found refl, λ (h, same). rw same at (held_is_got x h))
     where
-      go : (f : Found) → (search ws t.slots id).found ≡ f → got_at ws f ≡ Entry x → Holds ws t.slots x × (id_of x ≡ id)
-      go (At i) found e =
+      go : (f : Option ℕ) → (search ws t.slots id).found ≡ f → got_at ws f ≡ Some x → Holds ws t.slots x × (id_of x ≡ id)
+      go (Some i) found e =
           let (l, live, same) = search_at ws t.slots id i found in
           let h : Holds ws t.slots x = record { slot = i; below = l; live = live; same = cc } in
           (h, sym (held_id ws t.slots x h) ∙ same)
-      go Absent found e = let z : ◌≡◌ {A = ℕ} 0 1 = cc in absurd (omega arith)
+      go None found e = let z : ◌≡◌ {A = ℕ} 0 1 = cc in absurd (omega arith)
 
-  pub nothing_exactly : (id : ℕ) → (got ws t.slots id ≡ Nothing) ↔ ((x : CapabilityEntry) → Holds ws t.slots x → id_of x ≢ id)
+  pub nothing_exactly : (id : ℕ) → (got ws t.slots id ≡ None) ↔ ((x : CapabilityEntry) → Holds ws t.slots x → id_of x ≢ id)
   unfolding got
   nothing_exactly id = (
     λ nothing x h same.
-        let found : got ws t.slots id ≡ Entry x = rw same at (held_is_got x h) in
+        let found : got ws t.slots id ≡ Some x = rw same at (held_is_got x h) in
         let z : ◌≡◌ {A = ℕ} 0 1 = cc in
         omega arith,
     λ none. ap (got_at ws) (none_absent ws t.slots id ((lacks_iff ws t.slots id).1 none)),

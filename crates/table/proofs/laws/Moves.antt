@@ -1,5 +1,5 @@
 -- Rebuilds move few entries: over any calls on one table, from 0 slots on, all entries moved are at most three for each entry accepted.
-use Rattle.std.proofs.Common.{◌≡◌, refl, Bool, true, false, List, [], ◌∷◌, ℕ, ◌+◌, ◌*◌, ◌^◌, ◌<◌, ◌≤◌, arith, ltb-true, ltb, length}
+use Rattle.std.proofs.Common.{◌≡◌, refl, Bool, true, false, List, [], ◌∷◌, ℕ, ◌+◌, ◌*◌, ◌^◌, ◌<◌, ◌≤◌, arith, ltb-true, ltb, length, Option, None, Some}
 use Rattle.base.specs.Choose.{pick}
 use Rattle.table.specs.Slots.{id_of}
 use Rattle.table.specs.Walk.{search}
@@ -8,8 +8,6 @@ use Rattle.table.specs.Copy.{copied}
 use Rattle.table.specs.Sound.{Sound}
 use Rattle.table.specs.declared.CapabilityEntry.{CapabilityEntry}
 use Rattle.table.specs.declared.CapTable.{CapTable}
-use Rattle.table.specs.declared.Found.{Found}
-use Rattle.table.specs.declared.Found.TheVariants.{At, Absent}
 use Rattle.table.proofs.laws.Copy.{copy_is_sound, copy_length, copy_pays}
 use Rattle.table.proofs.laws.Exact.{search_at, absent_exactly_when_none}
 use Rattle.table.proofs.laws.Insert.{insert_keeps_sound, insert_length}
@@ -41,14 +39,14 @@ unfoldable pub on_with : History → Table → ℕ → History
 on_with h u accepted = record { words = u.words; counts = u.counts; moved = h.moved + u.moved; accepted = h.accepted + accepted }
 
 -- An insert is accepted where its id is absent and there are fewer than `most` entries.
-unfoldable pub insert_at : ℕ → CapabilityEntry → Found → History → History
-insert_at most e (At i) h = h
-insert_at most e Absent h = pick (ltb h.counts.full most) (on_with h (insert_new h.words h.counts e) 1) h
+unfoldable pub insert_at : ℕ → CapabilityEntry → Option ℕ → History → History
+insert_at most e (Some i) h = h
+insert_at most e None h = pick (ltb h.counts.full most) (on_with h (insert_new h.words h.counts e) 1) h
 
 -- A remove takes the entry where its id was found.
-unfoldable pub remove_at : Found → History → History
-remove_at (At i) h = on_with h (removed_at h.words h.counts i) 0
-remove_at Absent h = h
+unfoldable pub remove_at : Option ℕ → History → History
+remove_at (Some i) h = on_with h (removed_at h.words h.counts i) 0
+remove_at None h = h
 
 unfoldable pub after : {most : ℕ} → Call most → History → History
 after {most} (insert e rights) h = insert_at most e (search h.words h.counts.slots (id_of e)).found h
@@ -80,11 +78,11 @@ module _ (most : ℕ) (h : History) (p : Paid most h) where
   on_paid u accepted sound same pays = record { sound = sound; long = rw same p.long; paid = omega (arith, p.paid) }
 
   insert_paid :
-      (e : CapabilityEntry) (f : Found) → e.rights.0 < 2 ^ 32 → (search h.words h.counts.slots (id_of e)).found ≡ f
+      (e : CapabilityEntry) (f : Option ℕ) → e.rights.0 < 2 ^ 32 → (search h.words h.counts.slots (id_of e)).found ≡ f
       → Paid most (insert_at most e f h)
   unfolding insert_at
-  insert_paid e (At i) rights found = p
-  insert_paid e Absent rights found = go (ltb h.counts.full most) refl
+  insert_paid e (Some i) rights found = p
+  insert_paid e None rights found = go (ltb h.counts.full most) refl
     where
       u : Table
       u = insert_new h.words h.counts e
@@ -98,16 +96,16 @@ module _ (most : ℕ) (h : History) (p : Paid most h) where
           (insert_pays most h.words h.counts e p.sound)
       go false full = p
 
-  remove_paid : (id : ℕ) (f : Found) → (search h.words h.counts.slots id).found ≡ f → Paid most (remove_at f h)
+  remove_paid : (id : ℕ) (f : Option ℕ) → (search h.words h.counts.slots id).found ≡ f → Paid most (remove_at f h)
   unfolding remove_at
-  remove_paid id (At i) found =
+  remove_paid id (Some i) found =
       let (l, live, same) = search_at h.words h.counts.slots id i found in
       let fits : 4 * h.counts.slots ≤ length h.words =
       omega (arith, p.long, capacity_le most h.counts.slots p.sound.capacity) in
       on_paid (removed_at h.words h.counts i) 0 (remove_keeps_sound most h.words h.counts i p.sound l live fits)
       (remove_length most h.words h.counts i p.sound l live fits)
       (omega (arith, remove_pays h.words h.counts i live))
-  remove_paid id Absent found = p
+  remove_paid id None found = p
 
   call_paid : (call : Call most) → Paid most (after call h)
   unfolding after

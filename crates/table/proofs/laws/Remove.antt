@@ -1,13 +1,12 @@
 -- Removing the entry of a live slot: the table is sound again, of 0 slots when the last entry went, and holds exactly what it held but
 -- the entry removed, whose id is then absent.
-use Rattle.std.proofs.Common.{◌≡◌, refl, sym, ap, ◌∙◌, ◌↔◌, ◌≢◌, Bool, true, false, List, ℕ, ◌+◌, ◌-◌, ◌*◌, ◌<◌, ◌≤◌, arith, ltb-true, ltb-false, ltb, length}
+use Rattle.std.proofs.Common.{◌≡◌, refl, sym, ap, ◌∙◌, ◌↔◌, ◌≢◌, Bool, true, false, List, ℕ, ◌+◌, ◌-◌, ◌*◌, ◌<◌, ◌≤◌, arith, ltb-true, ltb-false, ltb, length, None}
 use Rattle.table.specs.Slots.{is_live, id_at, entry_at, put_mark}
 use Rattle.table.specs.Walk.{search}
 use Rattle.table.specs.Insert.{Table, removed_at}
 use Rattle.table.specs.Sound.{Sound}
 use Rattle.table.specs.declared.CapabilityEntry.{CapabilityEntry}
 use Rattle.table.specs.declared.CapTable.{CapTable}
-use Rattle.table.specs.declared.Found.TheVariants.{Absent}
 use Rattle.table.proofs.laws.Contents.{Holds, held_id, lacks_iff, held_counted, marking_holds}
 use Rattle.table.proofs.laws.Exact.{none_absent}
 use Rattle.table.proofs.laws.Slots.{mark_length}
@@ -72,7 +71,7 @@ module _
     unfolding removed_at
     remove_length = rw lives (mark_length ws i)
 
-    pub removed_is_absent : (search (removed_at ws t i).words (removed_at ws t i).counts.slots (id_at ws i)).found ≡ Absent
+    pub removed_is_absent : (search (removed_at ws t i).words (removed_at ws t i).counts.slots (id_at ws i)).found ≡ None
     removed_is_absent =
         none_absent _ _ (id_at ws i)
         ((lacks_iff _ _ (id_at ws i)).1

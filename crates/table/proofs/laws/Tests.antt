@@ -1,5 +1,5 @@
 -- The test of a table is the rules: each test is true exactly when its rule holds, and all together exactly when the table is sound.
-use Rattle.std.proofs.Common.{◌≡◌, refl, ap, ◌↔◌, Bool, true, false, List, ℕ, ◌+◌, ◌*◌, ◌≤◌, arith, eqb-true, eq-eqb, ne_eqb, eqb, leb}
+use Rattle.std.proofs.Common.{◌≡◌, refl, ap, ◌↔◌, Bool, true, false, List, ℕ, ◌+◌, ◌*◌, ◌≤◌, arith, eqb-true, eq-eqb, ne_eqb, eqb, leb, Option, None, Some}
 use Rattle.std.proofs.Math.Logic.Iff
 use Rattle.base.specs.Arith.{next_power}
 use Rattle.base.specs.Choose.{pick, both}
@@ -10,8 +10,6 @@ use Rattle.table.specs.Walk.{walk, stops, steps_to_stop}
 use Rattle.table.specs.Insert.{slots_for}
 use Rattle.table.specs.Sound.{Capacity, no_slots, some_slots, Sound, ends_at, coded_test, capacity_test, room_test, unused_test, most_test, found_test, sound_test}
 use Rattle.table.specs.declared.CapTable.{CapTable}
-use Rattle.table.specs.declared.Found.{Found}
-use Rattle.table.specs.declared.Found.TheVariants.{At, Absent}
 use Rattle.table.proofs.laws.Powers.{own_is_power, power_is_own}
 use Rattle.table.proofs.laws.Visits.{Coded, live_in, removed_in, passed_not_empty}
 use Rattle.table.proofs.laws.Exact.{Differ, AllMet, AllFound, found_stops, live_found}
@@ -50,9 +48,9 @@ pub within_exactly : (most : ℕ) (t : CapTable) → (most_test most t ≡ true)
 within_exactly most t = simp tests Iff.rfl
 
 -- A search that ends at j found it.
-ends_at_iff : (f : Found) (j : ℕ) → (ends_at f j ≡ true) ↔ (f ≡ At j)
-ends_at_iff (At i) j = (λ h. ap At (eqb-true i j h), λ e. eq-eqb i j (cc))
-ends_at_iff Absent j = (λ h. cc, λ e. cc)
+ends_at_iff : (f : Option ℕ) (j : ℕ) → (ends_at f j ≡ true) ↔ (f ≡ Some j)
+ends_at_iff (Some i) j = (λ h. ap Some (eqb-true i j h), λ e. eq-eqb i j (cc))
+ends_at_iff None j = (λ h. cc, λ e. cc)
 
 pub searches_exactly : (ws : List ℕ) (slots : ℕ) → (found_test ws slots ≡ true) ↔ AllFound ws slots
 searches_exactly ws slots = simp (tests, ends_at_iff) Iff.rfl

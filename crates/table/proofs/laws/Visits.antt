@@ -2,7 +2,7 @@
 -- Each slot that a walk passes is live or removed and it passes none twice, so its steps are at most the two counts together.
 -- The first part asks only what a table in the middle of a rebuild has too; the second says it of a search of a sound table. Structure,
 -- Rebuild and Insert say it of the walk for a free place.
-use Rattle.std.proofs.Common.{◌≡◌, refl, ap, Bool, true, false, not, true≢false, List, ℕ, zero, suc, ◌+◌, ◌<◌, ◌≤◌, arith, eqb-true, eqb}
+use Rattle.std.proofs.Common.{◌≡◌, refl, ap, Bool, true, false, not, true≢false, List, ℕ, zero, suc, ◌+◌, ◌<◌, ◌≤◌, arith, eqb-true, eqb, None}
 use Rattle.std.proofs.Math.Decide.{dec_lt}
 use Rattle.std.proofs.Math.Logic.{by_cases}
 use Rattle.std.proofs.lemmas.Bool.{not-false}
@@ -15,7 +15,6 @@ use Rattle.table.specs.Slots.{kind_at, is_empty, is_removed, is_live, id_at}
 use Rattle.table.specs.Walk.{home_of, walk, stops, steps_to_stop, steps_to_free, search}
 use Rattle.table.specs.Sound.{Sound}
 use Rattle.table.specs.declared.CapTable.{CapTable}
-use Rattle.table.specs.declared.Found.TheVariants.{Absent}
 use Rattle.table.proofs.laws.Walks.{home_lt, walk_lt, search_stops, search_runs_out}
 
 abbrev pub Coded : List ℕ → ℕ → Type 0
@@ -94,7 +93,7 @@ visits_le ws slots id coded =
     (λ l. omega (arith, ap (λ s. s.visits) (search_stops ws slots id _ refl l)))
     (λ l. omega (arith, ap (λ s. s.visits) (search_runs_out ws slots id _ refl (omega arith))))
 
-pub no_slots_no_visits : (ws : List ℕ) (id : ℕ) → search ws 0 id ≡ record { found = Absent; visits = 0 }
+pub no_slots_no_visits : (ws : List ℕ) (id : ℕ) → search ws 0 id ≡ record { found = None; visits = 0 }
 unfolding search steps_to_stop first
 no_slots_no_visits ws id = refl
 

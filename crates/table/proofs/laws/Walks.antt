@@ -1,11 +1,10 @@
 -- The walk of an id over c slots: it starts at home, goes up by one and around, and in c steps meets no slot twice.
-use Rattle.std.proofs.Common.{◌≡◌, ⊎_elim, List, ℕ, ◌+◌, ◌%◌, ◌<◌, ◌≤◌, mod-lt, add-zero, add_assoc, arith, lt-ltb, le-ltb}
+use Rattle.std.proofs.Common.{◌≡◌, ⊎_elim, List, ℕ, ◌+◌, ◌%◌, ◌<◌, ◌≤◌, mod-lt, add-zero, add_assoc, arith, lt-ltb, le-ltb, None, Some}
 use Rattle.std.proofs.Math.Nat.{mod-mod, mod-add-mod}
 use Rattle.base.specs.Around.{wrap}
 use Rattle.base.specs.Choose.{pick}
 use Rattle.table.specs.Slots.{is_live}
 use Rattle.table.specs.Walk.{home_of, walk, steps_to_stop, search}
-use Rattle.table.specs.declared.Found.TheVariants.{At, Absent}
 
 pub home_lt : (id c : ℕ) → 0 < c → home_of id c < c
 unfolding home_of
@@ -38,11 +37,11 @@ walk_injective id c s t ls lt e =
 
 pub search_stops :
     (ws : List ℕ) (slots id n : ℕ) → steps_to_stop ws slots id ≡ n → n < slots
-    → search ws slots id ≡ record { found = pick (is_live ws (walk id slots n)) (At (walk id slots n)) Absent; visits = n + 1 }
+    → search ws slots id ≡ record { found = pick (is_live ws (walk id slots n)) (Some (walk id slots n)) None; visits = n + 1 }
 unfolding search
 search_stops ws slots id n e l = rw (e, lt-ltb n slots l)
 
 pub search_runs_out :
-    (ws : List ℕ) (slots id n : ℕ) → steps_to_stop ws slots id ≡ n → slots ≤ n → search ws slots id ≡ record { found = Absent; visits = n }
+    (ws : List ℕ) (slots id n : ℕ) → steps_to_stop ws slots id ≡ n → slots ≤ n → search ws slots id ≡ record { found = None; visits = n }
 unfolding search
 search_runs_out ws slots id n e l = rw (e, le-ltb n slots l)

@@ -1,5 +1,5 @@
 -- What was looked up decides, then GRANT; the rights go on cut down to both sets' common bits.
-use Rattle.std.proofs.Common.{Bool, true, false, not, List, ◌≡◌, sym, ap, ap₂, ◌∙◌, ℕ, ◌^◌}
+use Rattle.std.proofs.Common.{Bool, true, false, not, List, ◌≡◌, sym, ap, ap₂, ◌∙◌, ℕ, ◌^◌, None, Some}
 use Rattle.answers.specs.declared.Answer.TheVariants.{InvalidCapability, PermissionDenied}
 use Rattle.base.specs.Choose.{when_yes, when_no}
 use Rattle.space.specs.declared.LookedUp.{LookedUp}
@@ -7,7 +7,6 @@ use Rattle.steps.proofs.Leaving.{left_is}
 use Rattle.steps.proofs.laws.ReadyKept.{ready_lookup}
 use Rattle.steps.specs.Replies.{refuse}
 use Rattle.table.specs.declared.CapabilityEntry.{CapabilityEntry}
-use Rattle.table.specs.declared.Got.TheVariants.{Entry, Nothing}
 use Rattle.token.specs.Rights.{holds, common}
 use Rattle.world.specs.declared.Numbers.{Numbers}
 use Rattle.delegation_calls.specs.Delegation.{offered, offering, granting}
@@ -15,11 +14,11 @@ use Rattle.delegation_calls.proofs.delegation.delegate_from.Goals as goal
 
 -- By what the code saw, l, of what there was to see.
 module _ (d : Numbers) (target token rights : ℕ) (mem : List ℕ) (looked l : LookedUp) (is : l ≡ looked) where
-  absent : l.got ≡ Nothing → granting d target token rights mem looked.got ≡ refuse mem InvalidCapability
+  absent : l.got ≡ None → granting d target token rights mem looked.got ≡ refuse mem InvalidCapability
   absent told = ap (granting d target token rights mem) (ap (λ (l : LookedUp). l.got) (sym is) ∙ told)
 
-  module _ (e : CapabilityEntry) (told : l.got ≡ Entry e) (grants : Bool) (tested : grants ≡ holds e.rights.0 (2 ^ 3)) where
-    there : granting d target token rights mem looked.got ≡ granting d target token rights mem (Entry e)
+  module _ (e : CapabilityEntry) (told : l.got ≡ Some e) (grants : Bool) (tested : grants ≡ holds e.rights.0 (2 ^ 3)) where
+    there : granting d target token rights mem looked.got ≡ granting d target token rights mem (Some e)
     there = ap (granting d target token rights mem) (ap (λ (l : LookedUp). l.got) (sym is) ∙ told)
 
     denied : not grants ≡ true → granting d target token rights mem looked.got ≡ refuse mem PermissionDenied

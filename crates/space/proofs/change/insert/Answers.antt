@@ -1,7 +1,7 @@
 -- `space::change::insert` meets its contract: quota, then the id.
 use Rattle.std.proofs.Common.{◌≡◌, ℕ, ◌<◌, ◌≤◌, Bool, true, false, List, sym, ◌∙◌, le-leb}
 use Rattle.std.proofs.lemmas.Bool.{lt-leb}
-use Rattle.answers.specs.declared.Answer.TheVariants.{Done, AlreadyExists, SpaceQuota}
+use Rattle.answers.specs.Answer.{Done, AlreadyExists, SpaceQuota}
 use Rattle.base.specs.Choose.{when_yes, when_no}
 use Rattle.table.specs.Slots.{id_of}
 use Rattle.table.specs.declared.CapabilityEntry.{CapabilityEntry}

@@ -1,6 +1,5 @@
 -- `space::change::remove` meets its contract: only a slot that holds exactly the token is given up.
-use Rattle.std.proofs.Common.{◌≡◌, ℕ, List}
-use Rattle.table.specs.declared.Found.TheVariants.{At, Absent}
+use Rattle.std.proofs.Common.{◌≡◌, ℕ, List, None, Some}
 use Rattle.table.specs.declared.Search.{Search}
 use Rattle.space.specs.Lookup.{exact_search}
 use Rattle.space.specs.Change.{removed, removed_token}
@@ -8,11 +7,11 @@ use Rattle.space.proofs.CodeFind.{find_laws}
 use Rattle.space.proofs.change.remove.Goals as goal
 
 module _ (sp : List ℕ) (token : ℕ) (s : Search) (is : s ≡ exact_search sp token) where
-  stays : s.found ≡ Absent → sp ≡ removed_token sp token
+  stays : s.found ≡ None → sp ≡ removed_token sp token
   unfolding removed_token
   stays absent = cc
 
-  goes : (i : ℕ) (after : List ℕ) → s.found ≡ At i → after ≡ removed sp i → after ≡ removed_token sp token
+  goes : (i : ℕ) (after : List ℕ) → s.found ≡ Some i → after ≡ removed sp i → after ≡ removed_token sp token
   unfolding removed_token
   goes i after at_i here = cc
 

@@ -1,11 +1,9 @@
-use Rattle.std.proofs.Common.{◌≡◌, sym, ap, ◌∙◌, List, ◌∷◌, ℕ, suc, ◌+◌, ◌-◌, ◌<◌, ◌≤◌, add-one, arith, rules}
+use Rattle.std.proofs.Common.{◌≡◌, sym, ap, ◌∙◌, List, ◌∷◌, ℕ, suc, ◌+◌, ◌-◌, ◌<◌, ◌≤◌, add-one, arith, rules, Option, None, Some}
 use Rattle.std.proofs.Math.Nat.{sub-zero}
 use Rattle.table.specs.Slots.{slot_at}
 use Rattle.table.specs.Insert.{live_entries}
 use Rattle.table.specs.Copy.{nth_of}
 use Rattle.table.specs.declared.CapabilityEntry.{CapabilityEntry}
-use Rattle.table.specs.declared.Nth.{Nth}
-use Rattle.table.specs.declared.Nth.TheVariants.{Entry, Past}
 use Rattle.table.specs.declared.Slot.{Slot}
 use Rattle.table.specs.declared.Slot.TheVariants.{Full}
 use Rattle.table.proofs.CodeSlots.{Other, full_slot, other_slot}
@@ -27,7 +25,7 @@ module _ (ws : List ℕ) (slots i : ℕ) (l : i < slots) (s : Slot) (is : s ≡ 
   unfolding live_entries
   other tag = rw (more, add-one, other_slot ws i s is tag)
 
-module _ (ws : List ℕ) (slots i past : ℕ) (answer : Nth) (left : nth_of (live_entries ws i (slots - i)) past ≡ answer) where
+module _ (ws : List ℕ) (slots i past : ℕ) (answer : Option CapabilityEntry) (left : nth_of (live_entries ws i (slots - i)) past ≡ answer) where
   passes : (s : Slot) → i < slots → s ≡ slot_at ws i → Other s → nth_of (live_entries ws (i + 1) (slots - (i + 1))) past ≡ answer
   passes s l is tag = rw (other ws slots i l s is tag) at left
 
@@ -38,11 +36,11 @@ module _ (ws : List ℕ) (slots i past : ℕ) (answer : Nth) (left : nth_of (liv
       let down : past ≡ suc (past - 1) = omega arith in
       sym (ap (nth_of (e ∷ live_entries ws (i + 1) (slots - (i + 1)))) down) ∙ (rw (live ws slots i l s is e full) at left)
 
-  here : (s : Slot) (e : CapabilityEntry) → i < slots → s ≡ slot_at ws i → s ≡ Full e → past ≡ 0 → Entry e ≡ answer
+  here : (s : Slot) (e : CapabilityEntry) → i < slots → s ≡ slot_at ws i → s ≡ Full e → past ≡ 0 → Some e ≡ answer
   unfolding nth_of
   here s e l is full none = rw (live ws slots i l s is e full, none) at left
 
-  ends : slots ≤ i → Past ≡ answer
+  ends : slots ≤ i → None ≡ answer
   unfolding live_entries nth_of
   ends l =
       let none : slots - i ≡ 0 = omega arith in

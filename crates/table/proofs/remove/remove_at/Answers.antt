@@ -1,10 +1,9 @@
 -- `table::remove::remove_at` meets its contract: it goes by what the slot is, and the test of the live count is `removed_at`'s.
-use Rattle.std.proofs.Common.{◌≡◌, List, ℕ, ◌+◌, ◌-◌, ◌<◌, ◌≤◌, rules, lt-ltb, le-ltb}
+use Rattle.std.proofs.Common.{◌≡◌, List, ℕ, ◌+◌, ◌-◌, ◌<◌, ◌≤◌, rules, lt-ltb, le-ltb, None, Some}
 use Rattle.table.specs.Slots.{slot_at, put_mark}
 use Rattle.table.specs.Insert.{none, removed_at, held_at}
 use Rattle.table.specs.declared.CapabilityEntry.{CapabilityEntry}
 use Rattle.table.specs.declared.CapTable.{CapTable}
-use Rattle.table.specs.declared.Got.TheVariants.{Entry, Nothing}
 use Rattle.table.specs.declared.Slot.{Slot}
 use Rattle.table.specs.declared.Slot.TheVariants.{Full}
 use Rattle.table.proofs.CodeSlots.{Other, full_slot, other_slot}
@@ -16,11 +15,11 @@ module _ (ws : List ℕ) (i : ℕ) (s : Slot) (is : s ≡ slot_at ws i) where
     unfolding removed_at
     same t = rw (other_slot ws i s is tag)
 
-    nothing : Nothing ≡ held_at ws i
+    nothing : None ≡ held_at ws i
     nothing = rw (other_slot ws i s is tag)
 
   module _ (e : CapabilityEntry) (full : s ≡ Full e) where
-    entry : Entry e ≡ held_at ws i
+    entry : Some e ≡ held_at ws i
     entry = let (lives, has) = full_slot ws i s is e full in rw (lives, has)
 
     module _ (after : List ℕ) (t : CapTable) (mark : after ≡ put_mark ws i) where

@@ -1,31 +1,29 @@
 -- `table::walk::get` meets its contract: where the search found an id, the slot is below the slot count and its entry the answer.
-use Rattle.std.proofs.Common.{◌≡◌, ap, sym, ◌∙◌, List, ℕ, ◌<◌, arith}
+use Rattle.std.proofs.Common.{◌≡◌, ap, sym, ◌∙◌, List, ℕ, ◌<◌, arith, None, Some}
 use Rattle.table.specs.Slots.{entry_at}
 use Rattle.table.specs.Walk.{search as searched, got}
 use Rattle.table.specs.declared.CapabilityEntry.{CapabilityEntry}
-use Rattle.table.specs.declared.Found.TheVariants.{At, Absent}
-use Rattle.table.specs.declared.Got.TheVariants.{Entry, Nothing}
 use Rattle.table.specs.declared.Search.{Search}
 use Rattle.table.proofs.laws.Exact.{search_at}
 use Rattle.table.proofs.walk.get.Goals as goal
 
-entry : (ws : List ℕ) (slots id i : ℕ) (e : CapabilityEntry) (s : Search) → s ≡ searched ws slots id → s.found ≡ At i → e ≡ entry_at ws i
-    → Entry e ≡ got ws slots id
+entry : (ws : List ℕ) (slots id i : ℕ) (e : CapabilityEntry) (s : Search) → s ≡ searched ws slots id → s.found ≡ Some i → e ≡ entry_at ws i
+    → Some e ≡ got ws slots id
 unfolding got
 entry ws slots id i e s r f h = cc
 
-nothing : (ws : List ℕ) (slots id : ℕ) (s : Search) → s ≡ searched ws slots id → s.found ≡ Absent → Nothing ≡ got ws slots id
+nothing : (ws : List ℕ) (slots id : ℕ) (s : Search) → s ≡ searched ws slots id → s.found ≡ None → None ≡ got ws slots id
 unfolding got
 nothing ws slots id s r f = cc
 
-below : (ws : List ℕ) (slots id i : ℕ) (s : Search) → s ≡ searched ws slots id → s.found ≡ At i → i < slots
+below : (ws : List ℕ) (slots id i : ℕ) (s : Search) → s ≡ searched ws slots id → s.found ≡ Some i → i < slots
 below ws slots id i s r f = (search_at ws slots id i (sym (ap (λ (s : Search). s.found) r) ∙ f)).0
 
 pub entry_at-requires : goal.entry_at-requires
-entry_at-requires c = omega (arith, below _ _ _ _ _ c.find-found.ensures c.in-At.is)
+entry_at-requires c = omega (arith, below _ _ _ _ _ c.find-found.ensures c.in-Some.is)
 
-pub returns-in-At : goal.returns-in-At
-returns-in-At c = search entry
+pub returns-in-Some : goal.returns-in-Some
+returns-in-Some c = search entry
 
-pub returns-in-Absent : goal.returns-in-Absent
-returns-in-Absent c = search nothing
+pub returns-in-None : goal.returns-in-None
+returns-in-None c = search nothing
