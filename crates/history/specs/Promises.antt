@@ -13,7 +13,7 @@ use Rattle.steps.specs.Replies.{Left}
 use Rattle.steps.specs.Steps.{space_of}
 use Rattle.token.specs.Token.{made}
 use Rattle.token.specs.declared.capability.CapabilityToken.{CapabilityToken}
-use Rattle.token.specs.declared.capability.Made.TheVariants.{Token}
+use Rattle.std.specs.Prelude.{Ok}
 use Rattle.world.specs.Numbers.{numbers_of}
 use Rattle.world.specs.Open.{opening}
 use Rattle.world.specs.Regions.{length_for}
@@ -92,7 +92,7 @@ pub record VisitsOf (mem : List ℕ) (s : ℕ) : Type 0 where
   pub of_get_entry : (id : ℕ) → id < 2 ^ 48 → Walked mem (reads (space_get_entry s id)) (space_reads.get_entry_out mem s id).visits
   pub of_remove : (token : ℕ) → Walked mem (changes (space_remove s token)) (space.remove_out mem s token).reply.count
   pub of_space_revoke :
-      (id : ℕ) (t : CapabilityToken) → made id (generation_of (space_of (numbers_of mem) s mem)) 0 0 ≡ Token t
+      (id : ℕ) (t : CapabilityToken) → made id (generation_of (space_of (numbers_of mem) s mem)) 0 0 ≡ Ok t
       → Walked mem (changes (space_revoke s id)) (space.revoke_out mem s id).reply.count
   pub of_check : (token required : ℕ) → Walked mem (changes (check token required s)) (manager.check_out mem token required s).reply.count
   pub of_revoke_held :

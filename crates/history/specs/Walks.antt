@@ -17,7 +17,7 @@ use Rattle.table.specs.declared.CapabilityEntry.{CapabilityEntry}
 use Rattle.token.specs.Rights.{common}
 use Rattle.token.specs.Token.{made, type_of, id_of as token_id}
 use Rattle.token.specs.declared.capability.CapabilityToken.{CapabilityToken}
-use Rattle.token.specs.declared.capability.Made.TheVariants.{Token}
+use Rattle.std.specs.Prelude.{Ok}
 use Rattle.world.specs.Numbers.{numbers_of, registered_of}
 use Rattle.world.specs.Sound.{ids}
 use Rattle.world.specs.declared.Numbers.{Numbers}
@@ -148,7 +148,7 @@ pub data WalksOf (d : Numbers) (mem : List ℕ) : Call → Walk → Type 0 where
       → WalksOf d mem (changes (space_check_rights s token required)) (seeking (space_of d s mem) (token_id token))
   in_remove : (s token : ℕ) → s < d.spaces → WalksOf d mem (changes (space_remove s token)) (seeking (space_of d s mem) (token_id token))
   in_space_revoke :
-      (s id : ℕ) (t : CapabilityToken) → s < d.spaces → made id (generation_of (space_of d s mem)) 0 0 ≡ Token t
+      (s id : ℕ) (t : CapabilityToken) → s < d.spaces → made id (generation_of (space_of d s mem)) 0 0 ≡ Ok t
       → WalksOf d mem (changes (space_revoke s id)) (seeking (space_of d s mem) (token_id t.0))
   in_check :
       (token required s : ℕ) → s < d.spaces
@@ -166,7 +166,7 @@ pub data WalksOf (d : Numbers) (mem : List ℕ) : Call → Walk → Type 0 where
       → WalksOf d mem (accepts (space_copy target source)) w
   in_space_create :
       (s rights object id : ℕ) (fits : rights < 2 ^ 32) (t : CapabilityToken) (w : Walk) → s < d.spaces → taken_id d mem ≡ Id id
-      → made id (generation_of (space_of d s (take_step d mem))) 0 0 ≡ Token t
+      → made id (generation_of (space_of d s (take_step d mem))) 0 0 ≡ Ok t
       → InsertsInto (space_of d s (take_step d mem)) (token_id t.0) w
       → WalksOf d mem (accepts (space_create s rights object fits)) w
   in_create :

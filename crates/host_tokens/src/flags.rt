@@ -1,11 +1,11 @@
-// Flags for a host: a permission is its number, 1, 2, 4 or 8; 21 for any other number.
+//! Flags for a host: a permission is its number, 1, 2, 4 or 8; 21 for any other number.
 ghost use Rattle.std.specs.Prelude.{◌≡◌};
 ghost use Rattle.token.specs.Flags.{named, combined};
 ghost use Rattle.host_tokens.specs.Answered.{has_answer, flags_answer};
 
-use token::{CapabilityFlags, Combined, Named};
+use token::CapabilityFlags;
 
-// The answer's number, and whether the flags have the permission; a refusal says no.
+/// The answer's number, and whether the flags have the permission; a refusal says no.
 #[repr(C)]
 #[derive(Clone, Copy)]
 pub struct HasAnswer {
@@ -13,7 +13,7 @@ pub struct HasAnswer {
     pub has: bool,
 }
 
-// The answer's number, and the flags; those of a refusal are 0.
+/// The answer's number, and the flags; those of a refusal are 0.
 #[repr(C)]
 #[derive(Clone, Copy)]
 pub struct FlagsAnswer {
@@ -21,30 +21,32 @@ pub struct FlagsAnswer {
     pub flags: u8,
 }
 
+#[tactic(auto, unfolding(crate::specs::Answered::has_answer))]
 #[unsafe(no_mangle)]
 pub extern "C" fn stonespry_flags_has(flags: u8, number: u8) -> HasAnswer
     ensures { result ≡ has_answer flags (named number) }
 {
-    match CapabilityFlags::from_number(number) {
-        Named::Flag(perm) => HasAnswer {
+    match CapabilityFlags::try_from(number) {
+        Ok(perm) => HasAnswer {
             answer: 0,
             has: CapabilityFlags::has(flags, perm),
         },
-        Named::Refused(answer) => HasAnswer {
-            answer: answer.number(),
+        Err(refusal) => HasAnswer {
+            answer: u8::from(refusal),
             has: false,
         },
     }
 }
 
+#[tactic(auto, unfolding(crate::specs::Answered::flags_answer))]
 #[unsafe(no_mangle)]
 pub extern "C" fn stonespry_flags_combine(numbers: &[u8]) -> FlagsAnswer
     ensures { result ≡ flags_answer (combined numbers.now) }
 {
     match CapabilityFlags::combine(numbers) {
-        Combined::Flags(flags) => FlagsAnswer { answer: 0, flags },
-        Combined::Refused(answer) => FlagsAnswer {
-            answer: answer.number(),
+        Ok(flags) => FlagsAnswer { answer: 0, flags },
+        Err(refusal) => FlagsAnswer {
+            answer: u8::from(refusal),
             flags: 0,
         },
     }

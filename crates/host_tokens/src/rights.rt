@@ -1,4 +1,4 @@
-// Rights for a host: a set of rights is its 32-bit word, so that `new` changes nothing.
+//! Rights for a host: a set of rights is its 32-bit word, so that `new` changes nothing.
 ghost use Rattle.std.specs.Prelude.{◌≡◌, ◌%◌, ◌^◌, eqb, get_or};
 ghost use Rattle.token.specs.Rights.{constants, holds, common, either, without, others, to_flags};
 
@@ -9,14 +9,14 @@ use token::Rights;
 pub extern "C" fn stonespry_rights_constant(number: u8) -> u32
     ensures { result ≡ get_or constants number 0 }
 {
-    Rights::constant(number).to_u32()
+    u32::from(Rights::constant(number))
 }
 
 #[unsafe(no_mangle)]
 pub extern "C" fn stonespry_rights_new(rights: u32) -> u32
     ensures { result ≡ rights }
 {
-    Rights::new(rights).to_u32()
+    u32::from(Rights::new(rights))
 }
 
 #[unsafe(no_mangle)]
@@ -30,23 +30,21 @@ pub extern "C" fn stonespry_rights_contains(rights: u32, other: u32) -> bool
 pub extern "C" fn stonespry_rights_intersection(rights: u32, other: u32) -> u32
     ensures { result ≡ common rights other }
 {
-    Rights::new(rights)
-        .intersection(Rights::new(other))
-        .to_u32()
+    u32::from(Rights::new(rights).intersection(Rights::new(other)))
 }
 
 #[unsafe(no_mangle)]
 pub extern "C" fn stonespry_rights_union(rights: u32, other: u32) -> u32
     ensures { result ≡ either rights other }
 {
-    Rights::new(rights).union(Rights::new(other)).to_u32()
+    u32::from(Rights::new(rights).union(Rights::new(other)))
 }
 
 #[unsafe(no_mangle)]
 pub extern "C" fn stonespry_rights_remove(rights: u32, other: u32) -> u32
     ensures { result ≡ without rights other }
 {
-    Rights::new(rights).remove(Rights::new(other)).to_u32()
+    u32::from(Rights::new(rights).remove(Rights::new(other)))
 }
 
 #[unsafe(no_mangle)]
@@ -67,7 +65,7 @@ pub extern "C" fn stonespry_rights_is_empty(rights: u32) -> bool
 pub extern "C" fn stonespry_rights_empty() -> u32
     ensures { result ≡ 0 }
 {
-    Rights::empty().to_u32()
+    u32::from(Rights::empty())
 }
 
 #[unsafe(no_mangle)]
@@ -81,12 +79,12 @@ pub extern "C" fn stonespry_rights_to_flags(rights: u32) -> u8
 pub extern "C" fn stonespry_rights_complement(rights: u32) -> u32
     ensures { result ≡ others rights }
 {
-    Rights::new(rights).complement().to_u32()
+    u32::from(!Rights::new(rights))
 }
 
 #[unsafe(no_mangle)]
 pub extern "C" fn stonespry_rights_difference(rights: u32, other: u32) -> u32
     ensures { result ≡ without rights other }
 {
-    Rights::new(rights).difference(Rights::new(other)).to_u32()
+    u32::from(Rights::new(rights).difference(Rights::new(other)))
 }

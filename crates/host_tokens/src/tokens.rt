@@ -1,11 +1,12 @@
-// Tokens for a host: a token is its 64-bit word, so that `to_u64` and `from_u64` change nothing.
+//! Tokens for a host: a token is its 64-bit word, so that `to_u64` and `from_u64` change nothing.
 ghost use Rattle.std.specs.Prelude.{◌≡◌, eqb};
 ghost use Rattle.token.specs.Token.{made, id_of, generation_of, type_of, flags_of};
-ghost use Rattle.host_tokens.specs.Answered.{token_answer};
+ghost use Rattle.host_tokens.specs.Answered.{Answers, token_answer};
 
-use token::{CapabilityToken, Made};
+use answers::Refusal;
+use token::CapabilityToken;
 
-// The answer's number, and the token's word; the word of a refusal is 0.
+/// The answer's number, and the token's word; the word of a refusal is 0.
 #[repr(C)]
 #[derive(Clone, Copy)]
 pub struct TokenAnswer {
@@ -13,18 +14,21 @@ pub struct TokenAnswer {
     pub token: u64,
 }
 
-fn token_answered(made: Made) -> TokenAnswer
-    ensures { result ≡ token_answer made }
-{
-    match made {
-        Made::Token(token) => TokenAnswer {
-            answer: 0,
-            token: token.to_u64(),
-        },
-        Made::Refused(answer) => TokenAnswer {
-            answer: answer.number(),
-            token: 0,
-        },
+impl From<Result<CapabilityToken, Refusal>> for TokenAnswer {
+    ghost from_gives = { Answers };
+
+    #[tactic(auto, unfolding(crate::specs::Answered::token_answer))]
+    fn from(made: Result<CapabilityToken, Refusal>) -> TokenAnswer {
+        match made {
+            Ok(token) => TokenAnswer {
+                answer: 0,
+                token: token.to_u64(),
+            },
+            Err(refusal) => TokenAnswer {
+                answer: u8::from(refusal),
+                token: 0,
+            },
+        }
     }
 }
 
@@ -37,7 +41,7 @@ pub extern "C" fn stonespry_token_new(
 ) -> TokenAnswer
     ensures { result ≡ token_answer (made id generation cap_type flags) }
 {
-    token_answered(CapabilityToken::new(id, generation, cap_type, flags))
+    CapabilityToken::new(id, generation, cap_type, flags).into()
 }
 
 #[unsafe(no_mangle)]
@@ -72,7 +76,7 @@ pub extern "C" fn stonespry_token_flags(token: u64) -> u8
 pub extern "C" fn stonespry_token_from_id_and_generation(id: u64, generation: u8) -> TokenAnswer
     ensures { result ≡ token_answer (made id generation 0 0) }
 {
-    token_answered(CapabilityToken::from_id_and_generation(id, generation))
+    CapabilityToken::from_id_and_generation(id, generation).into()
 }
 
 #[unsafe(no_mangle)]
@@ -112,5 +116,5 @@ pub extern "C" fn stonespry_token_from_parts(
 ) -> TokenAnswer
     ensures { result ≡ token_answer (made id generation 0 0) }
 {
-    token_answered(CapabilityToken::from_parts(id, object_id, generation, metadata))
+    CapabilityToken::from_parts(id, object_id, generation, metadata).into()
 }

@@ -12,8 +12,9 @@ use Rattle.steps.specs.declared.Taken.{Taken}
 use Rattle.steps.specs.declared.Taken.TheVariants.{Id, Exhausted}
 use Rattle.table.specs.declared.CapabilityEntry.{CapabilityEntry}
 use Rattle.token.specs.Token.{made}
-use Rattle.token.specs.declared.capability.Made.{Made}
-use Rattle.token.specs.declared.capability.Made.TheVariants.{Token, Refused}
+use Rattle.token.specs.declared.capability.CapabilityToken.{CapabilityToken}
+use Rattle.answers.specs.declared.Refusal.{Refusal}
+use Rattle.std.specs.Prelude.{Result, Ok, Err}
 use Rattle.world.specs.declared.Numbers.{Numbers}
 use Rattle.steps.specs.Replies.{Left, replied, done, refusal, refuse}
 use Rattle.space_reads.specs.Replies.{found_reply}
@@ -73,9 +74,9 @@ alloc_out mem = on_world (refuse mem) mem (λ d. record { reply = taken_reply (t
 
 -- Space-made create: an id is taken (12 where none is left), and a token of it and the space's generation, type and flags 0, inserted.
 -- The value is the id, which is lost if the insert is refused.
-abbrev pub create_made : Numbers → ℕ → ℕ → ℕ → ℕ → List ℕ → Made → Left Reply
-create_made d s rights object id mem (Token t) = inserting d s (new_entry t.0 object rights) id mem
-create_made d s rights object id mem (Refused a) = refuse mem SpaceIds
+abbrev pub create_made : Numbers → ℕ → ℕ → ℕ → ℕ → List ℕ → Result CapabilityToken Refusal → Left Reply
+create_made d s rights object id mem (Ok t) = inserting d s (new_entry t.0 object rights) id mem
+create_made d s rights object id mem (Err a) = refuse mem SpaceIds
 
 abbrev pub create_taken : Numbers → ℕ → ℕ → ℕ → List ℕ → Taken → Left Reply
 create_taken d s rights object mem (Id id) = create_made d s rights object id mem (made id (generation_of (space_of d s mem)) 0 0)
@@ -86,11 +87,11 @@ create_out mem s rights object =
     on_space (refuse mem) mem s (λ d. create_taken d s rights object (take_step d mem) (taken_id d mem))
 
 -- Space revoke: exactly the token that the space would have made of the id leaves; 21 for an id over 2^48-1, 8 where it is absent.
-abbrev pub revoke_made : Numbers → ℕ → List ℕ → Made → Left Reply
-revoke_made d s mem (Token t) =
+abbrev pub revoke_made : Numbers → ℕ → List ℕ → Result CapabilityToken Refusal → Left Reply
+revoke_made d s mem (Ok t) =
     let l = looked_up (space_of d s mem) t.0 in
     record { reply = gone_reply l.got l.visits; memory = remove_step d s t.0 mem }
-revoke_made d s mem (Refused a) = refuse mem a
+revoke_made d s mem (Err a) = refuse mem (Refuses a)
 
 unfoldable pub revoke_out : List ℕ → ℕ → ℕ → Left Reply
 revoke_out mem s id = on_space (refuse mem) mem s (λ d. revoke_made d s mem (made id (generation_of (space_of d s mem)) 0 0))

@@ -10,7 +10,7 @@ use steps::enter::{enter_space, enter_world};
 use steps::ids::take_id;
 use steps::replies::{done, refusal};
 use steps::{Entered, Reply, Taken};
-use token::{CapabilityToken, Made, Rights};
+use token::{CapabilityToken, Rights};
 use world::Numbers;
 
 pub fn alloc_cap_id(mem: &mut [u64]) -> Reply
@@ -33,8 +33,8 @@ fn create_with(mem: &mut [u64], d: Numbers, s: usize, rights: Rights, object: u6
 {
     let generation = spaces::facts(mem, d, s).generation;
     match CapabilityToken::from_id_and_generation(id, generation) {
-        Made::Token(token) => spaces::insert(mem, d, s, token, object, rights, id),
-        Made::Refused(_) => refusal(Answer::SpaceIds),
+        Ok(token) => spaces::insert(mem, d, s, token, object, rights, id),
+        Err(_) => refusal(Answer::SpaceIds),
     }
 }
 
@@ -60,8 +60,8 @@ pub fn revoke(mem: &mut [u64], s: usize, id: u64) -> Reply
         Entered::Good(d) => {
             let generation = spaces::facts(mem, d, s).generation;
             match CapabilityToken::from_id_and_generation(id, generation) {
-                Made::Token(token) => gone_reply(spaces::remove(mem, d, s, token)),
-                Made::Refused(answer) => refusal(answer),
+                Ok(token) => gone_reply(spaces::remove(mem, d, s, token)),
+                Err(answer) => refusal(answer),
             }
         }
     }

@@ -1,14 +1,12 @@
 -- What the definitions of Flags.antt mean: a flag says that the rights hold its right, a permission and its number
 -- determine each other, and combined flags are the least that contain each of those given.
-use Rattle.std.specs.Prelude.{ℕ, ◌^◌, ◌≤◌, ◌<◌, Bool, true, false, ◌↔◌, ◌≡◌, refl, eqb, List, [], ◌∷◌}
+use Rattle.std.specs.Prelude.{ℕ, ◌^◌, ◌≤◌, ◌<◌, Bool, true, false, ◌↔◌, ◌≡◌, refl, eqb, List, [], ◌∷◌, Ok, Err}
 use Rattle.std.proofs.Common.{zero-le, sym, ap, ◌∙◌, arith, eqb-true, lit<}
 use mathlib.Core.List.{Memᴰ}
 use Rattle.base.specs.Choose.{pick, both_left, both_right, both_make}
-use Rattle.answers.specs.declared.Answer.TheVariants.{BadField}
+use Rattle.answers.specs.declared.Refusal.TheVariants.{BadField}
 use Rattle.token.specs.declared.flags.CapabilityFlags.{CapabilityFlags}
 use Rattle.token.specs.declared.flags.CapabilityFlags.TheVariants.{Read, Write, Execute, Grant}
-use Rattle.token.specs.declared.flags.Named.{Named}
-use Rattle.token.specs.declared.flags.Named.TheVariants.{Flag}
 use Rattle.token.specs.Bits.{bit}
 use Rattle.token.specs.BitsLaws.{bit_of_or, bit_above}
 use Rattle.token.specs.Flags.{bit_of, has_flag, named, is_flag, all_flags, union_of}
@@ -26,17 +24,17 @@ flags_say_the_rights a perm =
     let kept = flags_are_low_four_bits a (bit_of perm) (one_of_four perm) in
     ap (λ b. eqb b 1) kept ∙ sym (contains_one_right a (bit_of perm))
 
-pub a_number_names_its_permission : (perm : CapabilityFlags) → named (2 ^ bit_of perm) ≡ Flag perm
+pub a_number_names_its_permission : (perm : CapabilityFlags) → named (2 ^ bit_of perm) ≡ Ok perm
 a_number_names_its_permission Read = refl
 a_number_names_its_permission Write = refl
 a_number_names_its_permission Execute = refl
 a_number_names_its_permission Grant = refl
 
-pub named_by_its_number : (n : ℕ) (perm : CapabilityFlags) → named n ≡ Flag perm → n ≡ 2 ^ bit_of perm
+pub named_by_its_number : (n : ℕ) (perm : CapabilityFlags) → named n ≡ Ok perm → n ≡ 2 ^ bit_of perm
 named_by_its_number n perm = go (eqb n 1) (eqb n 2) (eqb n 4) (eqb n 8) refl refl refl refl
   where
     go : (r w x g : Bool) → eqb n 1 ≡ r → eqb n 2 ≡ w → eqb n 4 ≡ x → eqb n 8 ≡ g
-        → pick r (Flag Read) (pick w (Flag Write) (pick x (Flag Execute) (pick g (Flag Grant) (Named.Refused BadField)))) ≡ Flag perm
+        → pick r (Ok Read) (pick w (Ok Write) (pick x (Ok Execute) (pick g (Ok Grant) (Err BadField)))) ≡ Ok perm
         → n ≡ 2 ^ bit_of perm
     go true w x g er ew ex eg h = let e : Read ≡ perm = cc in rw (← e) (eqb-true n 1 er)
     go false true x g er ew ex eg h = let e : Write ≡ perm = cc in rw (← e) (eqb-true n 2 ew)

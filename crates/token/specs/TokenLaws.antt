@@ -1,13 +1,12 @@
 -- A token and its four fields determine each other: `new` refuses exactly the fields that do not fit, what it packs is
 -- read back, every word is the token of its fields, and tokens with the same fields are the same.
-use Rattle.std.specs.Prelude.{ℕ, ◌-◌, ◌^◌, ◌<◌, ◌⊎◌, ◌↔◌, ◌≡◌}
+use Rattle.std.specs.Prelude.{ℕ, ◌-◌, ◌^◌, ◌<◌, ◌⊎◌, ◌↔◌, ◌≡◌, Ok, Err}
 use Rattle.std.proofs.Common.{inl, inr, ⊎_elim, sym, ap, ◌∙◌, arith, le-ltb, lt-ltb, shr-shr}
 use Rattle.std.proofs.Math.Decide.{dec_lt}
 use Rattle.std.proofs.Math.Logic.{by_cases}
 use Rattle.std.proofs.Math.Pow.{shr_mod}
-use Rattle.answers.specs.declared.Answer.TheVariants.{BadField}
+use Rattle.answers.specs.declared.Refusal.TheVariants.{BadField}
 use Rattle.token.specs.declared.capability.CapabilityToken.{CapabilityToken}
-use Rattle.token.specs.declared.capability.Made.TheVariants.{Token, Refused}
 use Rattle.token.specs.Token.{packed, made, id_of, generation_of, type_of, flags_of}
 
 -- the fields that fit their places; a generation, a byte, always does
@@ -17,11 +16,11 @@ pub record Fit (id cap_type flags : ℕ) : Type 0 where
   pub flags_fit : flags < 2 ^ 4
 
 module _ (id g t f : ℕ) where
-  pub new_packs_what_fits : Fit id t f → made id g t f ≡ Token (record { 0 = packed id g t f })
+  pub new_packs_what_fits : Fit id t f → made id g t f ≡ Ok (record { 0 = packed id g t f })
   new_packs_what_fits h =
       simp (le-ltb (2 ^ 48 - 1) id (omega arith), le-ltb 15 t (omega arith), le-ltb 15 f (omega arith))
 
-  fits_or_refused : Fit id t f ⊎ (made id g t f ≡ Refused BadField)
+  fits_or_refused : Fit id t f ⊎ (made id g t f ≡ Err BadField)
   fits_or_refused =
       by_cases (dec_lt id (2 ^ 48))
       (λ hi. by_cases (dec_lt t (2 ^ 4))
@@ -31,13 +30,13 @@ module _ (id g t f : ℕ) where
       (λ out. inr (simp (le-ltb (2 ^ 48 - 1) id (omega arith), lt-ltb 15 t (omega arith)))))
       (λ out. inr (simp (lt-ltb (2 ^ 48 - 1) id (omega arith))))
 
-  pub new_refuses_exactly_what_does_not_fit : (made id g t f ≡ Refused BadField) ↔ (¬ Fit id t f)
+  pub new_refuses_exactly_what_does_not_fit : (made id g t f ≡ Err BadField) ↔ (¬ Fit id t f)
   new_refuses_exactly_what_does_not_fit = (
     λ refused fit. let e = new_packs_what_fits fit in let z : ◌≡◌ {A = ℕ} 0 1 = cc in omega arith,
     λ out. ⊎_elim (λ fit. absurd (out fit)) (λ refused. refused) fits_or_refused,
   )
 
-  module _ (k : CapabilityToken) (is_made : made id g t f ≡ Token k) where
+  module _ (k : CapabilityToken) (is_made : made id g t f ≡ Ok k) where
     pub new_packs : Fit id t f × (k.0 ≡ packed id g t f)
     new_packs =
         ⊎_elim (λ fit. let e = new_packs_what_fits fit in (fit, cc))
@@ -61,10 +60,10 @@ module _ (w : ℕ) (w_Fits : w < 2 ^ 64) where
   pub a_word_is_its_fields : packed (id_of w) (generation_of w) (type_of w) (flags_of w) ≡ w
   a_word_is_its_fields = omega (arith, shr-shr w 48 8, shr-shr w 56 4, shr_mod 4 60 w_Fits)
 
-  pub every_word_is_a_token : made (id_of w) (generation_of w) (type_of w) (flags_of w) ≡ Token (record { 0 = w })
+  pub every_word_is_a_token : made (id_of w) (generation_of w) (type_of w) (flags_of w) ≡ Ok (record { 0 = w })
   every_word_is_a_token =
       new_packs_what_fits (id_of w) (generation_of w) (type_of w) (flags_of w) (omega arith)
-      ∙ ap (λ x. Token (record { 0 = x })) a_word_is_its_fields
+      ∙ ap (λ x. Ok (record { 0 = x })) a_word_is_its_fields
 
 pub token_by_fields : (v w : ℕ) → v < 2 ^ 64 → w < 2 ^ 64
     → id_of v ≡ id_of w → generation_of v ≡ generation_of w → type_of v ≡ type_of w → flags_of v ≡ flags_of w → v ≡ w

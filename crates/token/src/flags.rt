@@ -1,11 +1,11 @@
-// The permissions that a token's four flags hold, and flags as a set of them.
-// specs/Flags.antt says what each function computes.
-ghost use Rattle.std.specs.Prelude.{◌≡◌, ◌^◌};
-ghost use Rattle.token.specs.Flags.{bit_of, has_flag, named, combined};
+//! The permissions that a token's four flags hold, and flags as a set of them.
+//! specs/Flags.antt says what each function computes.
+ghost use Rattle.std.specs.Prelude.{◌≡◌};
+ghost use Rattle.token.specs.Flags.{HasNumber, Names, has_flag, combined};
 
-use answers::Answer;
+use answers::Refusal;
 
-#[derive(Clone, Copy)]
+#[derive(Clone, Copy, PartialEq, Eq, Debug)]
 pub enum CapabilityFlags {
     Read = 0b0001,
     Write = 0b0010,
@@ -13,59 +13,48 @@ pub enum CapabilityFlags {
     Grant = 0b1000,
 }
 
-// What a number names: a permission, or the refusal of a number that is no permission's.
-#[derive(Clone, Copy)]
-pub enum Named {
-    Flag(CapabilityFlags),
-    Refused(Answer),
+/// The permission's number, its bit alone.
+impl From<CapabilityFlags> for u8 {
+    ghost from_gives = { HasNumber };
+
+    fn from(perm: CapabilityFlags) -> u8 {
+        perm as u8
+    }
 }
 
-// What combining permissions answers: the flags, or the refusal of a number that is no permission's.
-#[derive(Clone, Copy)]
-pub enum Combined {
-    Flags(u8),
-    Refused(Answer),
+/// The permission that has a number; `BadField` for a number that none has.
+impl TryFrom<u8> for CapabilityFlags {
+    type Error = Refusal;
+
+    ghost try_from_gives = { Names };
+
+    fn try_from(number: u8) -> Result<Self, Refusal> {
+        match number {
+            1 => Ok(Self::Read),
+            2 => Ok(Self::Write),
+            4 => Ok(Self::Execute),
+            8 => Ok(Self::Grant),
+            _ => Err(Refusal::BadField),
+        }
+    }
 }
 
 impl CapabilityFlags {
-    pub fn number(self) -> u8
-        ensures { result ≡ 2 ^ bit_of self }
-    {
-        self as u8
-    }
-
     pub fn has(flags: u8, perm: Self) -> bool
         ensures { result ≡ has_flag flags perm }
     {
-        (flags & perm.number()) != 0
+        (flags & u8::from(perm)) != 0
     }
 
-    // The permission that has a number; 21 for a number that none has.
-    pub fn from_number(number: u8) -> Named
-        ensures { result ≡ named number }
-    {
-        match number {
-            1 => Named::Flag(CapabilityFlags::Read),
-            2 => Named::Flag(CapabilityFlags::Write),
-            4 => Named::Flag(CapabilityFlags::Execute),
-            8 => Named::Flag(CapabilityFlags::Grant),
-            _ => Named::Refused(Answer::BadField),
-        }
-    }
-
-    // The flags that hold every permission listed, each by its number; 21 if a number is no permission's.
-    pub fn combine(numbers: &[u8]) -> Combined
+    /// The flags that hold every permission listed, each by its number; `BadField` if a number is no permission's.
+    pub fn combine(numbers: &[u8]) -> Result<u8, Refusal>
         ensures { result ≡ combined numbers.now }
     {
         let mut flags = 0;
-        let mut i = 0;
-        while i < numbers.len() {
-            let Named::Flag(perm) = Self::from_number(numbers[i]) else {
-                return Combined::Refused(Answer::BadField);
-            };
-            flags |= perm.number();
-            i += 1;
+        for number in numbers {
+            let perm = Self::try_from(*number)?;
+            flags |= u8::from(perm);
         }
-        Combined::Flags(flags)
+        Ok(flags)
     }
 }

@@ -1,11 +1,12 @@
-// Rights: a set of up to 32 permissions, of which eight have names.
-// specs/Rights.antt says what each function computes; specs/RightsLaws.antt what that means for each right.
+//! Rights: a set of up to 32 permissions, of which eight have names.
+//! specs/Rights.antt says what each function computes; specs/RightsLaws.antt what that means for each right.
 ghost use Rattle.std.specs.Prelude.{◌≡◌, ◌%◌, ◌^◌, eqb, get_or};
 ghost use Rattle.token.specs.Rights.{constants, holds, common, either, without, others, to_flags};
 
 use super::flags::CapabilityFlags;
+use std::ops::{BitAnd, BitOr, BitOrAssign, Not};
 
-#[derive(Clone, Copy)]
+#[derive(Clone, Copy, PartialEq, Eq, Hash, Debug)]
 pub struct Rights(pub u32);
 
 // The named rights in the order of their bits, then all of them.
@@ -20,6 +21,65 @@ const CONSTANTS: [Rights; 9] = [
     Rights::CREATE,
     Rights::ALL,
 ];
+
+/// Every 32-bit word is a set of rights.
+impl From<u32> for Rights {
+    ghost from_gives = { λ word rights. rights.0 ≡ word };
+
+    fn from(word: u32) -> Self {
+        Self(word)
+    }
+}
+
+/// The whole word, as memory and hosts hold it.
+impl From<Rights> for u32 {
+    ghost from_gives = { λ rights word. word ≡ rights.0 };
+
+    fn from(rights: Rights) -> u32 {
+        rights.0
+    }
+}
+
+/// The rights that either has.
+impl BitOr for Rights {
+    type Output = Rights;
+
+    ghost bitor_gives = { λ a b out. out.0 ≡ either a.0 b.0 };
+
+    fn bitor(self, other: Self) -> Self {
+        self.union(other)
+    }
+}
+
+impl BitOrAssign for Rights {
+    ghost bitor_assign_gives = { λ a b out. out.0 ≡ either a.0 b.0 };
+
+    fn bitor_assign(&mut self, other: Self) {
+        *self = self.union(other);
+    }
+}
+
+/// The rights that both have.
+impl BitAnd for Rights {
+    type Output = Rights;
+
+    ghost bitand_gives = { λ a b out. out.0 ≡ common a.0 b.0 };
+
+    fn bitand(self, other: Self) -> Self {
+        self.intersection(other)
+    }
+}
+
+/// The rights that it has not, of all 32.
+impl Not for Rights {
+    type Output = Rights;
+
+    ghost not_gives = { λ a out. out.0 ≡ others a.0 };
+
+    fn not(self) -> Self {
+        Self(!self.0)
+    }
+}
 
 impl Rights {
     pub const READ: Self = Self(1 << 0);
@@ -40,7 +100,7 @@ impl Rights {
 
     pub const ALL: Self = Self(0xFF);
 
-    // The constants by number, for a host that cannot name them: READ is 0, CREATE 7, ALL 8; past that, no rights.
+    /// The constants by number, for a host that cannot name them: READ is 0, CREATE 7, ALL 8; past that, no rights.
     pub fn constant(number: u8) -> Self
         ensures { result.0 ≡ get_or constants number 0 }
     {
@@ -52,13 +112,6 @@ impl Rights {
         ensures { result.0 ≡ rights }
     {
         Self(rights)
-    }
-
-    // The whole word, as memory and hosts hold it.
-    pub fn to_u32(self) -> u32
-        ensures { result ≡ self.0 }
-    {
-        self.0
     }
 
     pub fn contains(self, other: Self) -> bool
@@ -85,7 +138,7 @@ impl Rights {
         Self(self.0 & !other.0)
     }
 
-    // The low 16 bits, for error reporting.
+    /// The low 16 bits, for error reporting.
     pub fn bits(self) -> u16
         ensures { result ≡ self.0 % 2 ^ 16 }
     {
@@ -121,13 +174,6 @@ impl Rights {
             flags |= CapabilityFlags::Grant as u8;
         }
         flags
-    }
-
-    // The source's `!`; its `|`, `|=` and `&` are `union` and `intersection`.
-    pub fn complement(self) -> Self
-        ensures { result.0 ≡ others self.0 }
-    {
-        Self(!self.0)
     }
 
     pub fn difference(self, other: Self) -> Self

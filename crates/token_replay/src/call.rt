@@ -1,38 +1,32 @@
-// The functions of token.rs by number, in the source's order (oracle/src/token_calls.rs), on words.
-// What they answer is held to the original's answers where the program runs, so nothing is promised of it here.
+//! The functions of token.rs by number, in the source's order (oracle/src/token_calls.rs), on words.
+//! What they answer is held to the original's answers where the program runs, so nothing is promised of it here.
 ghost use Rattle.io.specs.Counts.{IsPrefixLen};
 
 use super::line::Call;
-use answers::Answer;
-use token::{CapabilityFlags, CapabilityToken, Combined, Made, Named, Rights};
+use answers::Refusal;
+use token::{CapabilityFlags, CapabilityToken, Rights};
 
-// The answer's number, and the value or 0.
+/// The answer's number, and the value or 0.
 #[derive(Clone, Copy)]
 pub struct Outcome {
     pub answer: u8,
     pub value: u64,
 }
 
-fn done(value: u64) -> Outcome {
-    Outcome { answer: 0, value }
-}
-
-fn done_rights(rights: Rights) -> Outcome {
-    done(rights.to_u32() as u64)
-}
-
-fn refused(answer: Answer) -> Outcome {
-    Outcome {
-        answer: answer.number(),
-        value: 0,
+impl From<Result<u64, Refusal>> for Outcome {
+    fn from(answered: Result<u64, Refusal>) -> Outcome {
+        match answered {
+            Ok(value) => Outcome { answer: 0, value },
+            Err(refusal) => Outcome {
+                answer: u8::from(refusal),
+                value: 0,
+            },
+        }
     }
 }
 
-fn made(made: Made) -> Outcome {
-    match made {
-        Made::Token(token) => done(token.to_u64()),
-        Made::Refused(answer) => refused(answer),
-    }
+fn of_rights(rights: Rights) -> u64 {
+    u32::from(rights) as u64
 }
 
 fn byte(word: u64) -> u8 {
@@ -48,87 +42,79 @@ fn listed(list: u64, numbers: &mut [u8]) -> usize
     ensures { IsPrefixLen result numbers.new }
 {
     let mut rest = list;
-    let mut n = 0;
-    while n < numbers.len() {
+    for n in 0..numbers.len() {
         if rest % 16 == 0 {
             return n;
         }
         numbers[n] = (rest % 16) as u8;
         rest /= 16;
-        n += 1;
     }
-    n
+    numbers.len()
 }
 
-fn has(flags: u8, number: u8) -> Outcome {
-    match CapabilityFlags::from_number(number) {
-        Named::Flag(perm) => done(CapabilityFlags::has(flags, perm) as u64),
-        Named::Refused(answer) => refused(answer),
-    }
+fn has(flags: u8, number: u8) -> Result<u64, Refusal> {
+    let perm = CapabilityFlags::try_from(number)?;
+    Ok(CapabilityFlags::has(flags, perm) as u64)
 }
 
-fn combine(list: u64) -> Outcome {
+fn combine(list: u64) -> Result<u64, Refusal> {
     let mut numbers = [0u8; 16];
     let n = listed(list, &mut numbers);
-    match CapabilityFlags::combine(&numbers[..n]) {
-        Combined::Flags(flags) => done(flags as u64),
-        Combined::Refused(answer) => refused(answer),
-    }
+    let flags = CapabilityFlags::combine(&numbers[..n])?;
+    Ok(flags as u64)
 }
 
-fn on_token(call: Call) -> Outcome {
-    let number = call.number;
+fn on_token(call: Call) -> Result<u64, Refusal> {
     let token = CapabilityToken::from_u64(call.a);
-    match number {
-        1 => made(CapabilityToken::new(call.a, byte(call.b), byte(call.c), byte(call.d))),
-        2 => done(token.id()),
-        3 => done(token.generation() as u64),
-        4 => done(token.cap_type() as u64),
-        5 => done(token.flags() as u64),
-        6 => made(CapabilityToken::from_id_and_generation(call.a, byte(call.b))),
-        7 => done(token.to_u64()),
-        8 => done(token.to_u64()),
-        9 => done(token.is_null() as u64),
-        10 => done(CapabilityToken::null().to_u64()),
-        _ => made(CapabilityToken::from_parts(call.a, call.b, byte(call.c), byte(call.d))),
-    }
+    let word = match call.number {
+        1 => CapabilityToken::new(call.a, byte(call.b), byte(call.c), byte(call.d))?.to_u64(),
+        2 => token.id(),
+        3 => token.generation() as u64,
+        4 => token.cap_type() as u64,
+        5 => token.flags() as u64,
+        6 => CapabilityToken::from_id_and_generation(call.a, byte(call.b))?.to_u64(),
+        7 => token.to_u64(),
+        8 => u64::from(CapabilityToken::from(call.a)),
+        9 => token.is_null() as u64,
+        10 => CapabilityToken::null().to_u64(),
+        _ => CapabilityToken::from_parts(call.a, call.b, byte(call.c), byte(call.d))?.to_u64(),
+    };
+    Ok(word)
 }
 
 // The source's `|`, `|=`, `&` and `!` are 24 to 27.
-fn on_rights(call: Call) -> Outcome {
-    let number = call.number;
+fn on_rights(call: Call) -> u64 {
     let a = rights(call.a);
     let b = rights(call.b);
-    match number {
-        14 => done_rights(Rights::constant(byte(call.a))),
-        15 => done_rights(a),
-        16 => done(a.contains(b) as u64),
-        17 => done_rights(a.intersection(b)),
-        18 => done_rights(a.union(b)),
-        19 => done_rights(a.remove(b)),
-        20 => done(a.bits() as u64),
-        21 => done(a.is_empty() as u64),
-        22 => done_rights(Rights::empty()),
-        23 => done(a.to_flags() as u64),
-        24 => done_rights(a.union(b)),
-        25 => done_rights(a.union(b)),
-        26 => done_rights(a.intersection(b)),
-        27 => done_rights(a.complement()),
-        _ => done_rights(a.difference(b)),
+    match call.number {
+        14 => of_rights(Rights::constant(byte(call.a))),
+        15 => of_rights(a),
+        16 => a.contains(b) as u64,
+        17 => of_rights(a.intersection(b)),
+        18 => of_rights(a.union(b)),
+        19 => of_rights(a.remove(b)),
+        20 => a.bits() as u64,
+        21 => a.is_empty() as u64,
+        22 => of_rights(Rights::empty()),
+        23 => a.to_flags() as u64,
+        24 => of_rights(a | b),
+        25 => {
+            let mut either = a;
+            either |= b;
+            of_rights(either)
+        }
+        26 => of_rights(a & b),
+        27 => of_rights(!a),
+        _ => of_rights(a.difference(b)),
     }
 }
 
-// 1 to 11 are on tokens, 12 and 13 on flags, 14 to 28 on rights.
+/// 1 to 11 are on tokens, 12 and 13 on flags, 14 to 28 on rights.
 pub fn make(call: Call) -> Outcome {
-    let number = call.number;
-    if number < 12 {
-        return on_token(call);
+    match call.number {
+        0..=11 => on_token(call).into(),
+        12 => has(byte(call.a), byte(call.b)).into(),
+        13 => combine(call.a).into(),
+        _ => Ok(on_rights(call)).into(),
     }
-    if number == 12 {
-        return has(byte(call.a), byte(call.b));
-    }
-    if number == 13 {
-        return combine(call.a);
-    }
-    on_rights(call)
 }

@@ -1,8 +1,8 @@
-// A line of the list: a call's number and its four words, in lower-case hex.
+//! A line of the list: a call's number and its four words, in lower-case hex.
 ghost use Rattle.std.specs.Prelude.{◌≡◌, ◌+◌, ◌*◌, ◌^◌, ◌≤◌, ◌<◌};
 ghost use Rattle.token_replay.specs.Line.{digit_of, spelt, call_of};
 
-// Two digits and four words of 16, a space before each word, and the line end.
+/// Two digits and four words of 16, a space before each word, and the line end.
 pub const LENGTH: usize = 71;
 
 #[derive(Clone, Copy)]
@@ -29,10 +29,8 @@ fn number(line: &[u8; LENGTH], at: usize, n: usize) -> u64
     ensures { result ≡ spelt line.now at n }
 {
     let mut value = 0;
-    let mut i = 0;
-    while i < n {
+    for i in 0..n {
         value = with_digit(value, line[at + i]);
-        i += 1;
     }
     value
 }

@@ -1,6 +1,6 @@
-// Replays the fixed list of the original's answers for token.rs (tools/make-token-list): a call to a line of
-// standard input, and for each a line as the request stream prints it: place in the list, the call's number,
-// answer, value in hex.
+//! Replays the fixed list of the original's answers for token.rs (tools/make-token-list): a call to a line of
+//! standard input, and for each a line as the request stream prints it: place in the list, the call's number,
+//! answer, value in hex.
 #![tactic(auto)]
 
 mod call;
@@ -38,8 +38,9 @@ fn replay(place: u64) -> bool {
 
 // A proved loop has to end, and nothing says that the input does: the list has fewer lines than this.
 fn main() {
-    let mut place = 1;
-    while place < 0x1_0000 && replay(place) {
-        place += 1;
+    for place in 1..0x1_0000 {
+        if !replay(place) {
+            return;
+        }
     }
 }

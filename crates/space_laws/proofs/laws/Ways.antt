@@ -1,6 +1,6 @@
 -- The ways through the two calls that make a token of an id, the space-made create and the space revoke: what holds of each ending holds of
 -- the whole.
-use Rattle.std.proofs.Common.{List, ◌≡◌, refl, sym, subst, ℕ, ◌-◌, ◌^◌, ◌≤◌, ◌<◌, arith, ltb-true, ltb-false, ltb}
+use Rattle.std.proofs.Common.{List, ◌≡◌, refl, sym, subst, ℕ, ◌-◌, ◌^◌, ◌≤◌, ◌<◌, Result, Ok, Err, arith, ltb-true, ltb-false, ltb}
 use Rattle.answers.specs.declared.Answer.TheVariants.{SpaceIds, BadSpace, BadField, BadWorld}
 use Rattle.space.specs.Words.{generation_of}
 use Rattle.space_calls.specs.Calls.{inserting, create_made, create_taken, create_out}
@@ -15,8 +15,9 @@ use Rattle.steps.proofs.laws.TakeStep.{taken_free}
 use Rattle.steps.proofs.laws.Taking.{none_taken}
 use Rattle.table.specs.declared.CapabilityEntry.{CapabilityEntry}
 use Rattle.token.specs.Token.{packed, made}
-use Rattle.token.specs.declared.capability.Made.{Made}
-use Rattle.token.specs.declared.capability.Made.TheVariants.{Token, Refused}
+use Rattle.token.specs.declared.capability.CapabilityToken.{CapabilityToken}
+use Rattle.answers.specs.declared.Refusal.{Refusal}
+use Rattle.answers.specs.declared.Refusal.TheVariants as refusal
 use Rattle.world.specs.Numbers.{numbers_of}
 use Rattle.world.specs.Sound.{Sound}
 use Rattle.world.specs.declared.Numbers.{Numbers}
@@ -27,8 +28,8 @@ own_token sp id = packed id (generation_of sp) 0 0
 
 -- It makes none of an id over 2^48-1.
 pub made_by_cases :
-    (P : Made → Type 0) (sp : List ℕ) (id : ℕ) → (2 ^ 48 ≤ id → P (Refused BadField))
-    → (id < 2 ^ 48 → P (Token (record { 0 = own_token sp id }))) → P (made id (generation_of sp) 0 0)
+    (P : Result CapabilityToken Refusal → Type 0) (sp : List ℕ) (id : ℕ) → (2 ^ 48 ≤ id → P (Err refusal.BadField))
+    → (id < 2 ^ 48 → P (Ok (record { 0 = own_token sp id }))) → P (made id (generation_of sp) 0 0)
 made_by_cases P sp id none makes =
     pick_by_cases P _ _ (ltb (2 ^ 48 - 1) id)
     (λ over. none (omega (arith, ltb-true (2 ^ 48 - 1) id over)))

@@ -1,10 +1,7 @@
 -- `line::number` meets its contract: before each turn the digits passed spell the value.
-use Rattle.std.proofs.Common.{◌≡◌, ◌-◌, ◌≤◌}
+use Rattle.std.proofs.Common.{◌≡◌}
 use Rattle.token_replay.specs.Line.{spelt}
 use Rattle.token_replay.proofs.line.number.Given as goal
 
 abbrev pub invariant-loop-i : goal.invariant-loop-i
-invariant-loop-i l = (l.i ≤ l.n) × (l.value ≡ spelt l.line l.at l.i)
-
-abbrev pub decreases-loop-i : goal.decreases-loop-i
-decreases-loop-i l = l.n - l.i
+invariant-loop-i l = l.value ≡ spelt l.line l.at l.i

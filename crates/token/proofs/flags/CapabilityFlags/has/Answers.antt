@@ -14,4 +14,4 @@ masked flags i =
     flags i)
 
 pub returns : goal.returns
-returns c = rw c.number.ensures (masked c.args.flags (bit_of c.args.perm))
+returns c = rw c.from.ensures (masked c.args.flags (bit_of c.args.perm))
