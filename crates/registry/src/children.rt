@@ -12,12 +12,8 @@ pub fn child_count(rg: &[u64], places: usize, n: usize, p: usize) -> usize
 {
     let named = p as u64 + 1;
     let mut count = 0;
-    let mut k = 0;
-    while k < n {
-        if rg[3 * places + k] == named {
-            count += 1;
-        }
-        k += 1;
+    for k in 0..n {
+        count += (rg[3 * places + k] == named) as usize;
     }
     count
 }
@@ -30,15 +26,11 @@ pub fn list_children(rg: &[u64], places: usize, n: usize, p: usize, area: &mut [
 {
     let named = p as u64 + 1;
     let mut count = 0;
-    let mut k = 0;
-    while k < n {
-        if rg[3 * places + k] != named {
-            k += 1;
-            continue;
+    for k in 0..n {
+        if rg[3 * places + k] == named {
+            area[count] = rg[k];
+            count += 1;
         }
-        area[count] = rg[k];
-        count += 1;
-        k += 1;
     }
 }
 
@@ -48,10 +40,8 @@ pub fn parents(rg: &[u64], places: usize, n: usize) -> usize
     ensures { result ≡ spec.parents places n rg.now }
 {
     let mut count = 0;
-    let mut k = 0;
-    while k < n {
+    for k in 0..n {
         count += (rg[2 * places + k] / 2 % 2) as usize;
-        k += 1;
     }
     count
 }
@@ -62,12 +52,8 @@ pub fn edges(rg: &[u64], places: usize, n: usize) -> usize
     ensures { result ≡ spec.edges places n rg.now }
 {
     let mut count = 0;
-    let mut k = 0;
-    while k < n {
-        if rg[3 * places + k] != 0 {
-            count += 1;
-        }
-        k += 1;
+    for k in 0..n {
+        count += (rg[3 * places + k] != 0) as usize;
     }
     count
 }
@@ -78,12 +64,8 @@ pub fn strays(rg: &[u64], n: usize, ids: &[u64]) -> usize
     ensures { result ≡ spec.strays n rg.now ids.now }
 {
     let mut count = 0;
-    let mut j = 0;
-    while j < ids.len() {
-        if super::holders::place_of(rg, n, ids[j]) == n {
-            count += 1;
-        }
-        j += 1;
+    for id in ids {
+        count += (super::holders::place_of(rg, n, *id) == n) as usize;
     }
     count
 }

@@ -1,7 +1,7 @@
 // The descent of an id and its revocation in the registry. revocation.rs's `get_derivation_tree`, with the id itself in front, and of
 // manager.rs's `revoke` what it does to the registry.
 ghost use Rattle.std.specs.Prelude.{◌≡◌, ◌+◌, ◌-◌, ◌*◌, ◌<◌, ◌≤◌, [], ◌∷◌, ◌++◌, length, take, ◌==◌};
-ghost use Rattle.registry.specs.Words.{id_at, state_at, link_at, revoked};
+ghost use Rattle.registry.specs.Words.{state_at, link_at, revoked};
 ghost use Rattle.registry.specs.Sound.{Linked};
 ghost use Rattle.registry.specs.Counts.{AtMost};
 ghost use Rattle.registry.specs.ChildLists.{ChildLists, list_from};
@@ -17,18 +17,13 @@ fn list_each(rg: &[u64], places: usize, n: usize, firsts: &mut [u16], nexts: &mu
     requires child_lists { ChildLists places n rg.now firsts.old nexts.old n }
     ensures { ChildLists places n rg.now firsts.new nexts.new 0 }
 {
-    let mut at = n;
-    while 0 < at {
-        let k = at - 1;
+    for k in (0..n).rev() {
         let link = rg[3 * places + k] as usize;
-        if link == 0 {
-            at = k;
-            continue;
+        if link != 0 {
+            let p = link - 1;
+            nexts[k] = firsts[p];
+            firsts[p] = k as u16 + 1;
         }
-        let p = link - 1;
-        nexts[k] = firsts[p];
-        firsts[p] = at as u16;
-        at = k;
     }
 }
 
@@ -42,16 +37,14 @@ fn append(nexts: &[u16], head: u16, order: &mut [u16], count: usize) -> usize
     ensures upper_bound { result ≤ length order.old }
 {
     let mut at = head as usize;
-    let mut found = count;
-    while found < order.len() {
+    for found in count..order.len() {
         if at == 0 {
             return found;
         }
         order[found] = (at - 1) as u16;
-        found += 1;
         at = nexts[at - 1] as usize;
     }
-    found
+    order.len()
 }
 
 // Place r and all places under it, breadth first, to the front of `order`. Answers how many they are.
@@ -67,6 +60,7 @@ pub fn descend(rg: &[u64], places: usize, n: usize, r: usize, order: &mut [u16])
     order[0] = r as u16;
     let mut count = 1;
     let mut at = 0;
+    // No `for`: the list grows as it is gone along.
     while at < count {
         let p = order[at] as usize;
         count = append(&nexts, firsts[p], order, count);
@@ -91,16 +85,13 @@ pub fn keep_unrevoked(rg: &[u64], places: usize, order: &mut [u16], count: usize
     ensures upper_bound { (result ≤ count) × AllBelow places (take result order.new) }
 {
     let mut kept = 0;
-    let mut j = 0;
-    while j < count {
+    for j in 0..count {
         let k = order[j];
         if is_revoked(rg, places, k) {
-            j += 1;
             continue;
         }
         order[kept] = k;
         kept += 1;
-        j += 1;
     }
     kept
 }
@@ -120,19 +111,9 @@ pub fn mark(rg: &mut [u64], places: usize, order: &[u16])
     requires all_below { AllBelow places order.now }
     ensures { rg.new ≡ marked places order.now rg.old }
 {
-    let mut j = 0;
-    while j < order.len() {
-        mark_place(rg, places, order[j]);
-        j += 1;
+    for k in order {
+        mark_place(rg, places, *k);
     }
-}
-
-// The id at place k.
-fn id_at(rg: &[u64], k: u16) -> u64
-    requires { k < length rg.now }
-    ensures { result ≡ id_at rg.now k }
-{
-    rg[k as usize]
 }
 
 // The ids at the places of `order`, to the front of `ids`.
@@ -141,9 +122,7 @@ pub fn ids_at(rg: &[u64], order: &[u16], ids: &mut [u64])
     requires all_below { AllBelow (length rg.now) order.now }
     ensures { ids.new ≡ written (ids_at rg.now order.now) ids.old }
 {
-    let mut j = 0;
-    while j < order.len() {
-        ids[j] = id_at(rg, order[j]);
-        j += 1;
+    for (j, k) in order.iter().enumerate() {
+        ids[j] = rg[*k as usize];
     }
 }

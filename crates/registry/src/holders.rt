@@ -7,14 +7,7 @@ pub fn place_of(rg: &[u64], n: usize, id: u64) -> usize
     requires { n ≤ length rg.now }
     ensures { (result ≡ place_of n rg.now id) × (result ≤ n) }
 {
-    let mut k = 0;
-    while k < n {
-        if rg[k] == id {
-            return k;
-        }
-        k += 1;
-    }
-    k
+    rg[..n].iter().position(|x| *x == id).unwrap_or(n)
 }
 
 // A capability space now holds the id.
@@ -25,7 +18,7 @@ pub fn hold(rg: &mut [u64], places: usize, n: usize, id: u64)
     let k = place_of(rg, n, id);
     if k < n {
         let at = 2 * places + k;
-        rg[at] = std::num::wrapping_add_u64(rg[at], 4);
+        rg[at] = rg[at].wrapping_add(4);
     }
 }
 
@@ -38,7 +31,7 @@ pub fn release(rg: &mut [u64], places: usize, n: usize, id: u64)
     if k < n {
         let at = 2 * places + k;
         if rg[at] >= 4 {
-            rg[at] = rg[at] - 4;
+            rg[at] -= 4;
         }
     }
 }
@@ -48,10 +41,8 @@ pub fn hold_all(rg: &mut [u64], places: usize, n: usize, ids: &[u64])
     requires { (n ≤ places) × (places ≤ 4095) × (5 * places + 1 ≤ length rg.old) }
     ensures { rg.new ≡ held_all places n ids.now rg.old }
 {
-    let mut j = 0;
-    while j < ids.len() {
-        hold(rg, places, n, ids[j]);
-        j += 1;
+    for id in ids {
+        hold(rg, places, n, *id);
     }
 }
 
@@ -60,9 +51,7 @@ pub fn release_all(rg: &mut [u64], places: usize, n: usize, ids: &[u64])
     requires { (n ≤ places) × (places ≤ 4095) × (5 * places + 1 ≤ length rg.old) }
     ensures { rg.new ≡ released_all places n ids.now rg.old }
 {
-    let mut j = 0;
-    while j < ids.len() {
-        release(rg, places, n, ids[j]);
-        j += 1;
+    for id in ids {
+        release(rg, places, n, *id);
     }
 }

@@ -20,14 +20,11 @@ fn join_place(rg: &[u64], places: usize, m: usize, id: u64) -> usize
     requires { (m ≤ places + 1) × (places ≤ 4095) × (5 * places + 1 ≤ length rg.now) }
     ensures { (result ≡ join_place places m id rg.now) × (result ≤ m) }
 {
-    let mut j = 0;
-    while j < m {
-        if id < rg[4 * places + j] {
-            return j;
-        }
-        j += 1;
-    }
-    j
+    let start = 4 * places;
+    rg[start..start + m]
+        .iter()
+        .position(|x| id < *x)
+        .unwrap_or(m)
 }
 
 // Recycles an id among the m that are.

@@ -24,7 +24,7 @@ pub fn give_list(rg: &mut [u64], places: usize, p: usize)
     if rg[at] / 2 % 2 == 1 {
         return;
     }
-    rg[at] = rg[at] + 2;
+    rg[at] += 2;
 }
 
 // A link when place k leaves.
@@ -47,12 +47,8 @@ fn mend_links(rg: &mut [u64], k: usize, i: usize, m: usize)
     requires { (k < 4095) × (i + m ≤ length rg.old) }
     ensures { rg.new ≡ links_mended k i m rg.old }
 {
-    let mut at = i;
-    let mut left = m;
-    while 0 < left {
+    for at in i..i + m {
         rg[at] = relinked(k, rg[at]);
-        at += 1;
-        left -= 1;
     }
 }
 
@@ -72,29 +68,19 @@ fn has_child(rg: &[u64], places: usize, n: usize, k: usize) -> bool
     requires { (k < n) × (n ≤ places) × (places ≤ 4095) × (5 * places + 1 ≤ length rg.now) }
     ensures { result ≡ has_child places n rg.now k }
 {
-    let named = k as u64 + 1;
-    let mut j = 0;
-    while j < n {
-        if rg[3 * places + j] == named {
-            return true;
-        }
-        j += 1;
-    }
-    false
+    let start = 3 * places;
+    rg[start..start + n].contains(&(k as u64 + 1))
 }
 
 // Whether place k is a child of place p with no children and no holders.
+#[tactic(auto, unfolding(crate::specs::Registering::unneeded))]
 fn unneeded(rg: &[u64], places: usize, p: usize, n: usize, k: usize) -> bool
     requires { (k < n) × (p ≤ places) × (n ≤ places) × (places ≤ 4095) × (5 * places + 1 ≤ length rg.now) }
     ensures { result ≡ spec.unneeded places p n rg.now k }
 {
-    if rg[3 * places + k] != p as u64 + 1 {
-        return false;
-    }
-    if 0 < rg[2 * places + k] / 4 {
-        return false;
-    }
-    !has_child(rg, places, n, k)
+    rg[3 * places + k] == p as u64 + 1
+        && rg[2 * places + k] / 4 == 0
+        && !has_child(rg, places, n, k)
 }
 
 // The children of place p with no children and no holders leave; answers how many ids are left.
@@ -104,14 +90,11 @@ pub fn collect(rg: &mut [u64], places: usize, p: usize, n: usize) -> usize
         × (rg.new ≡ (collected places p n rg.old).words) }
 {
     let mut left = n;
-    let mut k = n;
-    while 0 < k {
-        k -= 1;
-        if !unneeded(rg, places, p, left, k) {
-            continue;
+    for k in (0..n).rev() {
+        if unneeded(rg, places, p, left, k) {
+            unregister(rg, places, left, k);
+            left -= 1;
         }
-        unregister(rg, places, left, k);
-        left -= 1;
     }
     left
 }

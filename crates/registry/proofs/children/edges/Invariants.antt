@@ -1,5 +1,5 @@
 -- `registry::children::edges` meets its contract: the links of the places before k that name a parent are counted.
-use Rattle.std.proofs.Common.{◌-◌, not, eqb}
+use Rattle.std.proofs.Common.{not, eqb}
 use Rattle.base.specs.Below.{one}
 use Rattle.registry.specs.Words.{link_at}
 use Rattle.registry.proofs.Counting.{Counting}
@@ -7,6 +7,3 @@ use Rattle.registry.proofs.children.edges.Given as goal
 
 abbrev pub invariant-loop-k : goal.invariant-loop-k
 invariant-loop-k l = Counting (λ k. one (not (eqb (link_at l.places l.rg k) 0))) l.n l.count l.k
-
-abbrev pub decreases-loop-k : goal.decreases-loop-k
-decreases-loop-k l = l.n - l.k

@@ -8,6 +8,7 @@ use Rattle.registry.specs.ChildrenLaws.{child_ids-length}
 use Rattle.registry.proofs.Naming.{names_it, names_other}
 use Rattle.registry.proofs.children.list_children.Invariants.{left, Listing}
 use Rattle.registry.proofs.children.list_children.Goals as goal
+use Rattle.registry.proofs.children.list_children.Goals.{then-rg-places, else-rg-places}
 
 starts : (places p n : ℕ) (rg area : List ℕ) → children (link_at places rg) n p ≤ length area → Listing places p n rg area area 0 0
 unfolding child_places child_ids written
@@ -66,14 +67,14 @@ ruleset laws = (rules, starts, ends, passes, place, writes)
 pub loop-k-init : goal.loop-k-init
 loop-k-init c = search laws
 
-pub loop-k-preserved-then-rg-places : goal.loop-k-preserved-then-rg-places
-loop-k-preserved-then-rg-places c = search laws
-
 pub bounds-area-count : goal.bounds-area-count
 bounds-area-count c = search laws
 
 pub loop-k-preserved : goal.loop-k-preserved
-loop-k-preserved c = search laws
+loop-k-preserved c = elim c.if-rg-places.branch [
+  | then-rg-places w ↦ rw (w.area-is, w.count-is) (search laws)
+  | else-rg-places w ↦ rw (w.area-is, w.count-is) (search laws)
+]
 
 pub returns : goal.returns
 returns c = search laws

@@ -19,6 +19,3 @@ pub record Listing (places p n : ℕ) (rg area₀ area : List ℕ) (count k : �
 
 abbrev pub invariant-loop-k : goal.invariant-loop-k
 invariant-loop-k l = Listing l.places l.p l.n l.rg l.initial.area l.area l.count l.k
-
-abbrev pub decreases-loop-k : goal.decreases-loop-k
-decreases-loop-k l = l.n - l.k

@@ -23,11 +23,11 @@ strays_sum n rg (id ∷ ids) =
 
 ruleset laws = (rules, counting)
 
-pub loop-j-init : goal.loop-j-init
-loop-j-init c = search laws
+pub loop-id-init : goal.loop-id-init
+loop-id-init c = search laws
 
-pub loop-j-preserved : goal.loop-j-preserved
-loop-j-preserved c = search laws
+pub loop-id-preserved : goal.loop-id-preserved
+loop-id-preserved c = search laws
 
 pub returns : goal.returns
-returns c = counting_ends _ _ _ _ c.loop-j.invariant c.loop-j-test.false ∙ strays_sum _ _ _
+returns c = counting_ends _ _ _ _ c.loop-id.invariant c.loop-id-test.false ∙ strays_sum _ _ _

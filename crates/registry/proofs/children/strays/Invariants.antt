@@ -1,5 +1,5 @@
 -- `registry::children::strays` meets its contract: those of the ids before j that have no place are counted.
-use Rattle.std.proofs.Common.{ℕ, ◌-◌, not, ltb, List, length, get_or}
+use Rattle.std.proofs.Common.{ℕ, not, ltb, List, length, get_or}
 use Rattle.base.specs.Below.{one}
 use Rattle.registry.specs.Holders.{place_of}
 use Rattle.registry.proofs.Counting.{Counting}
@@ -12,8 +12,5 @@ counts_for n rg id = one (not (ltb (place_of n rg id) n))
 abbrev pub stray : ℕ → List ℕ → List ℕ → ℕ → ℕ
 stray n rg ids j = counts_for n rg (get_or ids j 0)
 
-abbrev pub invariant-loop-j : goal.invariant-loop-j
-invariant-loop-j l = Counting (stray l.n l.rg l.ids) (length l.ids) l.count l.j
-
-abbrev pub decreases-loop-j : goal.decreases-loop-j
-decreases-loop-j l = length l.ids - l.j
+abbrev pub invariant-loop-id : goal.invariant-loop-id
+invariant-loop-id l = Counting (stray l.n l.rg l.ids) (length l.ids) l.count l.id-index

@@ -15,6 +15,3 @@ pub record Appending (nexts : List ℕ) (head : ℕ) (order₀ : List ℕ) (coun
 
 abbrev pub invariant-loop-found : goal.invariant-loop-found
 invariant-loop-found l = Appending l.nexts l.head l.initial.order l.count l.order l.at l.found
-
-abbrev pub decreases-loop-found : goal.decreases-loop-found
-decreases-loop-found l = length l.initial.order - l.found

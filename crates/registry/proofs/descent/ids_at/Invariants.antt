@@ -1,6 +1,6 @@
 -- `registry::descent::ids_at` meets its contract: with the ids of the places from j on written behind those before, the area becomes the
 -- answer.
-use Rattle.std.proofs.Common.{ℕ, ◌-◌, List, length}
+use Rattle.std.proofs.Common.{ℕ, List}
 use Rattle.base.specs.Written.{written, Writing}
 use Rattle.registry.specs.Children.{ids_at}
 use Rattle.registry.proofs.descent.ids_at.Given as goal
@@ -11,6 +11,3 @@ WritingIds rg order ids₀ ids j = Writing (ids_at rg order) ids₀ (written (id
 
 abbrev pub invariant-loop-j : goal.invariant-loop-j
 invariant-loop-j l = WritingIds l.rg l.order l.initial.ids l.ids l.j
-
-abbrev pub decreases-loop-j : goal.decreases-loop-j
-decreases-loop-j l = length l.order - l.j

@@ -1,5 +1,5 @@
 -- `registry::descent::keep_unrevoked` meets its contract: the places that are not revoked are sifted from the others.
-use Rattle.std.proofs.Common.{ℕ, ◌-◌, Bool, eqb, List, take}
+use Rattle.std.proofs.Common.{ℕ, Bool, eqb, List, take}
 use Rattle.base.specs.Sifted.{Sifting}
 use Rattle.registry.specs.Words.{state_at, revoked}
 use Rattle.registry.specs.PlaceLists.{AllBelow}
@@ -15,6 +15,3 @@ pub record Keeping (places : ℕ) (rg order₀ : List ℕ) (count : ℕ) (order 
 
 abbrev pub invariant-loop-j : goal.invariant-loop-j
 invariant-loop-j l = Keeping l.places l.rg l.initial.order l.count l.order l.kept l.j
-
-abbrev pub decreases-loop-j : goal.decreases-loop-j
-decreases-loop-j l = l.count - l.j

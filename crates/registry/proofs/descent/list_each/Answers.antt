@@ -1,4 +1,4 @@
-use Rattle.std.proofs.Common.{◌≡◌, ℕ, suc, ◌+◌, ◌-◌, ◌<◌, ◌≤◌, ◌≢◌, List, length, get_or, set, refl, ◌∙◌, arith, length-set, rules}
+use Rattle.std.proofs.Common.{◌≡◌, ℕ, suc, ◌+◌, ◌-◌, ◌<◌, ◌≤◌, ◌≢◌, List, length, get_or, set, refl, ◌∙◌, add-one, arith, length-set, rules}
 use Rattle.registry.specs.Words.{link_at}
 use Rattle.registry.specs.Sound.{Linked}
 use Rattle.registry.specs.ChildLists.{ChildLists, lists_root, lists_child}
@@ -44,23 +44,22 @@ module _ (places n : ℕ) (rg firsts₀ nexts₀ firsts nexts : List ℕ) (at : 
       first_room : link - 1 < length firsts
       first_room = omega (arith, small, listing.lists.firsts_room)
 
-      child : Listing places n rg firsts₀ nexts₀ (set firsts (link - 1) at) (set nexts (at - 1) (get_or firsts (link - 1) 0)) (at - 1)
+      child : Listing places n rg firsts₀ nexts₀ (set firsts (link - 1) (at - 1 + 1)) (set nexts (at - 1) (get_or firsts (link - 1) 0)) (at - 1)
       child =
-          let here : at ≡ suc (at - 1) = omega arith in
           let named : link ≡ suc (link - 1) = omega arith in
           let more = lists_child places n rg firsts nexts (at - 1) this so_far listing.linked (link - 1) named in
           record {
             inside = omega (arith, this);
             linked = listing.linked;
-            same_firsts = length-set firsts (link - 1) at ∙ listing.same_firsts;
+            same_firsts = length-set firsts (link - 1) (at - 1 + 1) ∙ listing.same_firsts;
             same_nexts = length-set nexts (at - 1) (get_or firsts (link - 1) 0) ∙ listing.same_nexts;
-            lists = rw (← here) at more;
+            lists = rw add-one more;
           }
 
 ruleset laws = (rules, starts, ends, next_room, first_room, root, child)
 
-pub loop-at-preserved-then-link-eq0 : goal.loop-at-preserved-then-link-eq0
-loop-at-preserved-then-link-eq0 c = search laws
+pub loop-k-preserved-then-link-ne0 : goal.loop-k-preserved-then-link-ne0
+loop-k-preserved-then-link-ne0 c = search laws
 
-pub loop-at-preserved : goal.loop-at-preserved
-loop-at-preserved c = search laws
+pub loop-k-preserved : goal.loop-k-preserved
+loop-k-preserved c = search laws

@@ -13,8 +13,5 @@ pub record Listing (places n : ℕ) (rg firsts₀ nexts₀ firsts nexts : List �
   pub same_nexts : length nexts ≡ length nexts₀
   pub lists : ChildLists places n rg firsts nexts at
 
-abbrev pub invariant-loop-at : goal.invariant-loop-at
-invariant-loop-at l = Listing l.places l.n l.rg l.initial.firsts l.initial.nexts l.firsts l.nexts l.at
-
-abbrev pub decreases-loop-at : goal.decreases-loop-at
-decreases-loop-at l = l.at
+abbrev pub invariant-loop-k : goal.invariant-loop-k
+invariant-loop-k l = Listing l.places l.n l.rg l.initial.firsts l.initial.nexts l.firsts l.nexts l.k

@@ -15,8 +15,8 @@ module _ (places j : ℕ) (order rg ys : List ℕ) (e : marked places (drop j or
 
 ruleset laws = (rules, all_below_at, turn, done)
 
-pub loop-j-preserved : goal.loop-j-preserved
-loop-j-preserved c = search laws
+pub loop-k-preserved : goal.loop-k-preserved
+loop-k-preserved c = search laws
 
 pub returns : goal.returns
 returns c = search laws

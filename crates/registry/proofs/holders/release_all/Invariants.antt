@@ -1,11 +1,7 @@
--- `registry::holders::release_all` meets its contract: with the ids from j on, what is done so far becomes the answer.
-use Rattle.std.proofs.Common.{◌-◌, length}
+-- `registry::holders::release_all` meets its contract: with the ids that are left, what is done so far becomes the answer.
 use Rattle.registry.specs.Holders.{released}
 use Rattle.registry.proofs.Holding.{EachFrom}
 use Rattle.registry.proofs.holders.release_all.Given as goal
 
-abbrev pub invariant-loop-j : goal.invariant-loop-j
-invariant-loop-j l = EachFrom (released l.places l.n) l.ids l.initial.rg l.rg l.j
-
-abbrev pub decreases-loop-j : goal.decreases-loop-j
-decreases-loop-j l = length l.ids - l.j
+abbrev pub invariant-loop-id : goal.invariant-loop-id
+invariant-loop-id l = EachFrom (released l.places l.n) l.ids l.initial.rg l.rg l.id-index

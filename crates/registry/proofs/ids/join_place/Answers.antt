@@ -1,18 +1,36 @@
-use Rattle.std.proofs.Common.{rules}
-use Rattle.base.specs.FirstLaws.{first_up_start, first_up_done}
-use Rattle.registry.proofs.ids.join_place.Invariants.{found, next}
+use Rattle.std.specs.List.{position}
+use Rattle.std.specs.Option.{unwrap_or}
+use Rattle.std.proofs.Common.{◌≡◌, ◌∙◌, ap, ℕ, ◌+◌, ◌-◌, ◌*◌, ◌≤◌, ltb, List, length, take, drop, arith, rules}
+use Rattle.std.proofs.lemmas.Iterator.{YieldsList-from_slice}
+use Rattle.std.proofs.lemmas.Iterator.Search.{position_from_yields_List}
+use borrow.Author.Tests.{tests}
+use Rattle.base.specs.FirstLaws.{first-le}
+use Rattle.base.specs.Part.{length_part, get_d_part}
+use Rattle.registry.specs.Words.{recycled_at}
+use Rattle.registry.specs.Ids.{join_place}
+use Rattle.registry.proofs.Firsts.{first_is_position}
 use Rattle.registry.proofs.ids.join_place.Goals as goal
 
-ruleset laws = (rules, first_up_start, found, next, first_up_done)
+module _ (places m id : ℕ) (rg : List ℕ) where
+  abbrev recycled : List ℕ
+  recycled = take (4 * places + m - 4 * places) (drop (4 * places) rg)
 
-pub loop-j-init : goal.loop-j-init
-loop-j-init c = search laws
+  place_is : 4 * places + m ≤ length rg → unwrap_or (position (ltb id) recycled) m ≡ join_place places m id rg
+  place_is l =
+      let width : 4 * places + m - 4 * places ≡ m = omega arith in
+      rw width
+      (first_is_position (ltb id) (λ j. ltb id (recycled_at places rg j)) (take m (drop (4 * places) rg)) m (length_part (4 * places) m rg l)
+      (λ j u. ap (ltb id) (get_d_part (4 * places) m rg j 0 u)))
 
-pub returns-then-id-rg : goal.returns-then-id-rg
-returns-then-id-rg c = search laws
-
-pub loop-j-preserved : goal.loop-j-preserved
-loop-j-preserved c = search laws
+  place_few : join_place places m id rg ≤ m
+  place_few = first-le (λ j. ltb id (recycled_at places rg j)) m
 
 pub returns : goal.returns
-returns c = search laws
+returns c =
+    let found : c.position.result ≡ position (ltb c.args.id) (recycled c.args.places c.args.m c.args.id c.args.rg.now) =
+    position_from_yields_List (ltb c.args.id) _ _ c.position.result c.position.ensures.ran
+    (YieldsList-from_slice _ c.iter.ensures.rest)
+    (λ x b q k. search (rules, tests)) in
+    let is : c.unwrap_or.result ≡ join_place c.args.places c.args.m c.args.id c.args.rg.now =
+    c.unwrap_or.ensures ∙ ap (λ o. unwrap_or o c.args.m) found ∙ place_is _ _ _ _ (omega arith) in
+    (is, omega (arith, place_few c.args.places c.args.m c.args.id c.args.rg.now))

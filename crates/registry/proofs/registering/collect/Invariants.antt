@@ -7,6 +7,3 @@ abbrev pub invariant-loop-k : goal.invariant-loop-k
 invariant-loop-k l =
     (l.k ≤ l.left) × (l.left ≤ l.n) × (length l.rg ≡ length l.initial.rg)
     × (collected_below l.places l.p l.k l.left l.rg ≡ collected l.places l.p l.n l.initial.rg)
-
-abbrev pub decreases-loop-k : goal.decreases-loop-k
-decreases-loop-k l = l.k

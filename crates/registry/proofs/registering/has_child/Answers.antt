@@ -1,18 +1,20 @@
-use Rattle.std.proofs.Common.{rules}
-use Rattle.base.specs.FirstLaws.{some_up}
-use Rattle.registry.proofs.Naming.{names_it, names_other}
+use Rattle.std.specs.List.{list_any}
+use Rattle.std.proofs.Common.{◌≡◌, ◌∙◌, ap, ℕ, suc, ◌+◌, ◌-◌, ◌*◌, ◌<◌, ◌≤◌, eqb, List, length, take, drop, get_or, add-one, arith, rules}
+use Rattle.base.specs.Part.{length_part, get_d_part}
+use Rattle.registry.specs.Words.{link_at, child_of}
+use Rattle.registry.specs.Registering.{has_child}
+use Rattle.registry.proofs.Firsts.{some_is_any}
 use Rattle.registry.proofs.registering.has_child.Goals as goal
 
-ruleset laws = (rules, some_up, names_it, names_other)
-
-pub loop-j-init : goal.loop-j-init
-loop-j-init c = search laws
-
-pub returns-then-rg-places : goal.returns-then-rg-places
-returns-then-rg-places c = search laws
-
-pub loop-j-preserved : goal.loop-j-preserved
-loop-j-preserved c = search laws
+child_listed : (places n k : ℕ) (rg : List ℕ) → 3 * places + n ≤ length rg
+    → list_any (λ x. eqb x (k + 1)) (take (3 * places + n - 3 * places) (drop (3 * places) rg)) ≡ has_child places n rg k
+child_listed places n k rg l =
+    let width : 3 * places + n - 3 * places ≡ n = omega arith in
+    rw (width, add-one)
+    (some_is_any (λ x. eqb x (suc k)) (child_of (link_at places rg) k) (take n (drop (3 * places) rg)) n (length_part (3 * places) n rg l)
+    (λ j u. ap (λ x. eqb x (suc k)) (get_d_part (3 * places) n rg j 0 u)))
 
 pub returns : goal.returns
-returns c = search laws
+returns c =
+    let found : c.contains.result ≡ list_any (λ x. eqb x (c.args.k + 1)) (take (3 * c.args.places + c.args.n - 3 * c.args.places) (drop (3 * c.args.places) c.args.rg.now)) = search rules in
+    found ∙ child_listed _ _ _ _ (omega arith)
