@@ -1,12 +1,11 @@
 -- Document 01, "Revocation": what revoking a registered id answers and leaves. d are the numbers of a sound memory; `listed` is the process
 -- list.
 use Rattle.std.specs.Prelude.{List, ℕ, ◌+◌, eqb, ltb, length}
-use Rattle.answers.specs.declared.Answer.TheVariants.{LogFull, PidTableFull}
+use Rattle.answers.specs.Answer.{LogFull, PidTableFull}
 use Rattle.base.specs.Choose.{when}
 use Rattle.registry.specs.Words.{revoked}
 use Rattle.revocation_steps.specs.Revocation.{free_queues, carried_out, queues_needed, cascade, cascade_ids, cascade_pairs}
-use Rattle.steps.specs.Replies.{Left, done, refuse}
-use Rattle.steps.specs.declared.Reply.{Reply}
+use Rattle.steps.specs.Replies.{Left, done, refuse, Reply}
 use Rattle.world.specs.Numbers.{logged_of}
 use Rattle.world.specs.Sound.{states}
 use Rattle.world.specs.declared.Numbers.{Numbers}

@@ -6,17 +6,17 @@ ghost use Rattle.std.specs.Prelude.{◌≡◌, ◌+◌, ◌<◌, ◌≤◌, leng
 ghost use Rattle.registry.specs.PlaceLists.{AllBelow};
 ghost use Rattle.revocation_steps.specs.Revocation.{cascade, carried_out, queues_needed};
 ghost use Rattle.steps.specs.Ready.{Ready, QueuesReady};
+ghost use Rattle.steps.specs.Replies.{told};
 ghost use Rattle.world.specs.Numbers.{registered_of, logged_of};
 ghost use Rattle.world.specs.Sound.{SoundAt};
 ghost use Rattle.cascade.specs.Cascade.{revoking, carrying_out};
 
-use answers::Answer;
+use answers::Refusal;
 use revocation_steps::descent::{descend, ids_at, keep_unrevoked, mark};
 use revocation_steps::log::{append_pairs, keep_absent};
 use revocation_steps::queues::{free_queues, new_queues, notify_all};
-use steps::Reply;
 use steps::registered::{add, state_at};
-use steps::replies::{done, refusal};
+use steps::{Done, Refused};
 use world::Numbers;
 use world::head::{EPOCH, LOGGED, REVOKED};
 
@@ -65,6 +65,7 @@ fn revoke_places(
 }
 
 // The same where the log and the queues have room for it, else 24 or 25 and nothing changes.
+#[tactic(auto, unfolding(base::specs::Choose::when))]
 fn revoke_listed(
     mem: &mut [u64],
     d: Numbers,
@@ -73,29 +74,29 @@ fn revoke_listed(
     pairs: &[u64],
     time: u64,
     listed: &[u64],
-) -> Reply
+) -> Result<Done, Refused>
     requires { SoundAt d mem.old × AllBelow d.places order.now × (0 < length ids.now) × (length pairs.now ≤ 4096) }
-    ensures { record { reply = result; memory = mem.new }
+    ensures { record { reply = told result; memory = mem.new }
         ≡ carrying_out d order.now ids.now pairs.now time listed.now mem.old }
 {
     if d.pairs < mem[LOGGED] as usize + pairs.len() {
-        return refusal(Answer::LogFull);
+        Err(Refusal::LogFull)?;
     }
     if free_queues(mem, d) < queues_needed(mem, d, listed, order.len()) {
-        return refusal(Answer::PidTableFull);
+        Err(Refusal::PidTableFull)?;
     }
     revoke_places(mem, d, order, ids, pairs, time, listed);
-    done(0)
+    Ok(Done::with(0))
 }
 
 // Place r is revoked with all under it. Already revoked: nothing changes.
 #[tactic(auto, unfolding(crate::specs::Cascade::revoking, base::specs::Choose::when))]
-pub fn revoke_at(mem: &mut [u64], d: Numbers, r: usize, time: u64, listed: &[u64]) -> Reply
+pub fn revoke_at(mem: &mut [u64], d: Numbers, r: usize, time: u64, listed: &[u64]) -> Result<Done, Refused>
     requires { SoundAt d mem.old × (r < registered_of mem.old) }
-    ensures { record { reply = result; memory = mem.new } ≡ revoking d r time listed.now mem.old }
+    ensures { record { reply = told result; memory = mem.new } ≡ revoking d r time listed.now mem.old }
 {
     if state_at(mem, d, r) % 2 == 1 {
-        return done(0);
+        return Ok(Done::with(0));
     }
     let mut order = [0u16; 4096];
     let count = cascade_places(mem, d, r, &mut order);

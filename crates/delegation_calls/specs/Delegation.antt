@@ -2,18 +2,16 @@
 -- argument. d are the numbers of a sound memory. The value is the token, the count the entries that the insert moved: 0 where a child is
 -- returned or the call refused.
 use Rattle.std.specs.Prelude.{Bool, true, false, not, List, ℕ, zero, suc, ◌+◌, eqb, ltb, Option, None, Some}
-use Rattle.answers.specs.declared.Answer.TheVariants.{InvalidCapability, CapabilityRevoked, PermissionDenied, IdExhausted, QuotaExceeded, BadSpace, RegistryFull}
+use Rattle.answers.specs.Answer.{InvalidCapability, CapabilityRevoked, PermissionDenied, IdExhausted, QuotaExceeded, BadSpace, RegistryFull}
 use Rattle.base.specs.Choose.{pick, both, when}
 use Rattle.manager_calls.specs.Admit.{admitted}
 use Rattle.manager_calls.specs.Tokens.{token_of, current}
 use Rattle.registry.specs.Words.{revoked, child_of}
 use Rattle.space.specs.Lookup.{looked_up}
 use Rattle.steps.specs.Enter.{on_space}
-use Rattle.steps.specs.Replies.{Left, done, refuse}
+use Rattle.steps.specs.Replies.{Left, done, refuse, Reply}
 use Rattle.steps.specs.Steps.{space_of, lookup_step, taken_id, take_step, place_in, objects, register_step, list_step, recycle_step, collect_step, children_of}
-use Rattle.steps.specs.declared.Reply.{Reply}
-use Rattle.steps.specs.declared.Taken.{Taken}
-use Rattle.steps.specs.declared.Taken.TheVariants.{Id, Exhausted}
+
 use Rattle.table.specs.declared.CapabilityEntry.{CapabilityEntry}
 use Rattle.token.specs.Rights.{GRANT, holds, common}
 use Rattle.token.specs.Token.{id_of, type_of}
@@ -67,9 +65,9 @@ derived_with d target token rights id p mem =
     (register_step d id object (suc p) (list_step d p mem))
 
 -- 9 where no id was left. Else one was taken: parent unregistered gives 1, revoked or other generation gives 3; then 22.
-abbrev pub derived : Numbers → ℕ → ℕ → ℕ → List ℕ → Taken → Left Reply
-derived d target token rights mem Exhausted = refuse mem IdExhausted
-derived d target token rights mem (Id id) =
+abbrev pub derived : Numbers → ℕ → ℕ → ℕ → List ℕ → Option ℕ → Left Reply
+derived d target token rights mem None = refuse mem IdExhausted
+derived d target token rights mem (Some id) =
     let p = place_in d mem (id_of token) in
     when (not (ltb p (registered_of mem))) (refuse (recycle_step d id mem) InvalidCapability)
     (when (not (current d mem token p)) (refuse (recycle_step d id mem) CapabilityRevoked)

@@ -3,16 +3,18 @@
 ghost use Rattle.std.specs.Prelude.{◌≡◌, ◌<◌};
 ghost use Rattle.space.specs.Lookup.{looked_up};
 ghost use Rattle.steps.specs.Ready.{Ready};
+ghost use Rattle.steps.specs.Replies.{told};
 ghost use Rattle.steps.specs.Steps.{space_of, lookup_step};
 ghost use Rattle.delegation_calls.specs.Delegation.{offering, offered, granting, delegate_out};
 
 use super::derive::with_room;
-use super::offer::{Offer, find_child};
-use answers::Answer;
+use super::offer::find_child;
+use answers::Refusal;
 use space_steps::spaces;
 use steps::enter::enter_space;
 use steps::replies::{done, refusal};
 use steps::{Entered, Reply};
+use steps::{Done, Refused};
 use token::{CapabilityToken, Rights};
 use world::Numbers;
 
@@ -23,15 +25,15 @@ fn offer_or_derive(
     target: usize,
     token: CapabilityToken,
     rights: Rights,
-) -> Reply
+) -> Result<Done, Refused>
     requires { Ready d mem.old × (target < d.spaces) }
-    ensures { record { reply = result; memory = mem.new }
+    ensures { record { reply = told result; memory = mem.new }
         ≡ offering d target token.0 rights.0 (offered d target token.0 rights.0 mem.old) }
 {
-    match find_child(mem, d, target, token, rights) {
-        Offer::Held(child) => done(child.0),
-        Offer::Absent => with_room(mem, d, target, token, rights),
+    if let Some(child) = find_child(mem, d, target, token, rights) {
+        return Ok(Done::with(child.0));
     }
+    with_room(mem, d, target, token, rights)
 }
 
 // The token is looked up in the source space, and its entry must have GRANT.
@@ -42,44 +44,37 @@ fn delegate_from(
     source: usize,
     target: usize,
     rights: Rights,
-) -> Reply
+) -> Result<Done, Refused>
     requires { Ready d mem.old × (source < d.spaces) × (target < d.spaces) }
-    ensures { record { reply = result; memory = mem.new }
+    ensures { record { reply = told result; memory = mem.new }
         ≡ granting d target token.0 rights.0 (lookup_step d source token.0 mem.old)
         (looked_up (space_of d source mem.old) token.0).got }
 {
     let l = spaces::lookup(mem, d, source, token);
-    let got = l.got;
-    match got {
-        None => refusal(Answer::InvalidCapability),
-        Some(entry) => {
-            let held = entry.rights;
-            if !held.contains(Rights::GRANT) {
-                return refusal(Answer::PermissionDenied);
-            }
-            offer_or_derive(mem, d, target, token, held.intersection(rights))
-        }
+    let held = l.got.ok_or(Refusal::InvalidCapability)?.rights;
+    if !held.contains(Rights::GRANT) {
+        Err(Refusal::PermissionDenied)?;
     }
+    offer_or_derive(mem, d, target, token, held.intersection(rights))
 }
 
-// The source's `delegate`: the value is the token, the count the entries that its insert moved.
+/// The source's `delegate`: the value is the token, the count how many entries its insert moved. 1 for a token that the source space does not
+/// hold or that is not registered, 3 for one that is revoked, 6 without GRANT, 9, 10, 22 or 4 where an id, the parent's list, the registry or
+/// the target space has no room.
+#[tactic(auto, unfolding(crate::specs::Delegation::delegate_out, steps::specs::Enter::on_space, base::specs::Choose::when))]
 pub fn delegate(
     mem: &mut [u64],
     token: CapabilityToken,
     source: usize,
     target: usize,
     rights: Rights,
-) -> Reply
-    ensures { record { reply = result; memory = mem.new }
+) -> Result<Done, Refused>
+    ensures { record { reply = told result; memory = mem.new }
         ≡ delegate_out mem.old token.0 source target rights.0 }
 {
-    match enter_space(mem, source) {
-        Entered::Refused(answer) => refusal(answer),
-        Entered::Good(d) => {
-            if d.spaces <= target {
-                return refusal(Answer::BadSpace);
-            }
-            delegate_from(mem, d, token, source, target, rights)
-        }
+    let d = enter_space(mem, source)?;
+    if d.spaces <= target {
+        Err(Refusal::BadSpace)?;
     }
+    delegate_from(mem, d, token, source, target, rights)
 }

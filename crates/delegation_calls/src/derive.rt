@@ -1,17 +1,16 @@
 // A new child of a capability: room in the parent's list, an id, the parent looked at, then registered, recorded, inserted.
-ghost use Rattle.std.specs.Prelude.{◌≡◌, ◌<◌, ◌≤◌};
-ghost use Rattle.steps.specs.declared.Taken.TheVariants.{Id};
+ghost use Rattle.std.specs.Prelude.{◌≡◌, ◌<◌, ◌≤◌, Some};
 ghost use Rattle.steps.specs.Ready.{Ready};
+ghost use Rattle.steps.specs.Replies.{told};
 ghost use Rattle.world.specs.Numbers.{registered_of, recycled_of};
 ghost use Rattle.delegation_calls.specs.Delegation.{derived, derived_with, with_id, with_room};
 
-use answers::Answer;
+use answers::Refusal;
 use manager_calls::admit::{admit, give_back};
 use manager_calls::tokens::{is_current, token_of};
 use steps::ids::take_id;
 use steps::registered::{child_count, collect, give_list, object_at, place_of, register};
-use steps::replies::refusal;
-use steps::{Reply, Taken};
+use steps::{Done, Refused};
 use token::{CapabilityToken, Rights};
 use world::Numbers;
 use world::head::{DELEGATED, REGISTERED};
@@ -25,13 +24,13 @@ fn derive_with(
     rights: Rights,
     id: u64,
     p: usize,
-) -> Reply
+) -> Result<Done, Refused>
     requires { Ready d mem.old
         × (target < d.spaces)
         × (recycled_of mem.old ≤ d.places)
         × (p < registered_of mem.old)
         × (registered_of mem.old < d.places) }
-    ensures { record { reply = result; memory = mem.new }
+    ensures { record { reply = told result; memory = mem.new }
         ≡ derived_with d target token.0 rights.0 id p mem.old }
 {
     let object = object_at(mem, d, p);
@@ -49,20 +48,20 @@ fn derive_taken(
     token: CapabilityToken,
     rights: Rights,
     id: u64,
-) -> Reply
+) -> Result<Done, Refused>
     requires { Ready d mem.old × (target < d.spaces) × (recycled_of mem.old ≤ d.places) }
-    ensures { record { reply = result; memory = mem.new } ≡ derived d target token.0 rights.0 mem.old (Id id) }
+    ensures { record { reply = told result; memory = mem.new } ≡ derived d target token.0 rights.0 mem.old (Some id) }
 {
     let n = mem[REGISTERED] as usize;
     let p = place_of(mem, d, token.id());
     if n <= p {
-        return give_back(mem, d, id, Answer::InvalidCapability);
+        return Err(give_back(mem, d, id, Refusal::InvalidCapability));
     }
     if !is_current(mem, d, token, p) {
-        return give_back(mem, d, id, Answer::CapabilityRevoked);
+        return Err(give_back(mem, d, id, Refusal::CapabilityRevoked));
     }
     if d.places <= n {
-        return give_back(mem, d, id, Answer::RegistryFull);
+        return Err(give_back(mem, d, id, Refusal::RegistryFull));
     }
     derive_with(mem, d, target, token, rights, id, p)
 }
@@ -74,14 +73,12 @@ fn derive(
     target: usize,
     token: CapabilityToken,
     rights: Rights,
-) -> Reply
+) -> Result<Done, Refused>
     requires { Ready d mem.old × (target < d.spaces) }
-    ensures { record { reply = result; memory = mem.new } ≡ with_id d target token.0 rights.0 mem.old }
+    ensures { record { reply = told result; memory = mem.new } ≡ with_id d target token.0 rights.0 mem.old }
 {
-    match take_id(mem, d) {
-        Taken::Id(id) => derive_taken(mem, d, target, token, rights, id),
-        Taken::Exhausted => refusal(Answer::IdExhausted),
-    }
+    let id = take_id(mem, d).ok_or(Refusal::IdExhausted)?;
+    derive_taken(mem, d, target, token, rights, id)
 }
 
 // With 1,024 children the collection, then 10 exactly if 1,024 remain.
@@ -91,9 +88,9 @@ pub fn with_room(
     target: usize,
     token: CapabilityToken,
     rights: Rights,
-) -> Reply
+) -> Result<Done, Refused>
     requires { Ready d mem.old × (target < d.spaces) }
-    ensures { record { reply = result; memory = mem.new } ≡ with_room d target token.0 rights.0 mem.old }
+    ensures { record { reply = told result; memory = mem.new } ≡ with_room d target token.0 rights.0 mem.old }
 {
     let p = place_of(mem, d, token.id());
     if child_count(mem, d, p) < 1024 {
@@ -101,7 +98,7 @@ pub fn with_room(
     }
     collect(mem, d, p);
     if 1024 <= child_count(mem, d, p) {
-        return refusal(Answer::QuotaExceeded);
+        Err(Refusal::QuotaExceeded)?;
     }
     derive(mem, d, target, token, rights)
 }

@@ -1,5 +1,5 @@
 // The call of the manager that derives: manager.rs's `delegate`, on the world's memory. It asks nothing of its arguments or of the memory:
-// it looks first, and refuses by document 01's table.
+// it looks first, and refuses by the table of answers.
 #![tactic(auto)]
 
 mod delegation;

@@ -13,23 +13,12 @@ use token::{CapabilityToken, Rights};
 use world::Numbers;
 use world::head::REGISTERED;
 
-// The token of a child that the target holds already, if there is one.
-#[derive(Clone, Copy)]
-pub enum Offer {
-    Held(CapabilityToken),
-    Absent,
-}
-
 // Whether the entry that was looked for is there with exactly these rights.
 fn held_with(l: LookedUp, rights: Rights) -> bool
     ensures { result ≡ held_with rights.0 l.got }
 {
-    let got = l.got;
-    match got {
-        Some(entry) => {
-            let held = entry.rights;
-            held.0 == rights.0
-        }
+    match l.got {
+        Some(entry) => entry.rights == rights,
         None => false,
     }
 }
@@ -39,10 +28,7 @@ fn is_open_child(mem: &[u64], d: Numbers, p: usize, k: usize) -> bool
     requires { Ready d mem.now × (p ≤ d.places) × (k < d.places) }
     ensures { result ≡ open_child d mem.now p k }
 {
-    if link_at(mem, d, k) == p as u64 + 1 {
-        return state_at(mem, d, k) % 2 == 0;
-    }
-    false
+    link_at(mem, d, k) == p as u64 + 1 && state_at(mem, d, k) % 2 == 0
 }
 
 // Place k, where it is an unrevoked child of place p: its token, if the target holds it with these rights.
@@ -54,19 +40,19 @@ fn offer_at(
     rights: Rights,
     p: usize,
     k: usize,
-) -> Offer
+) -> Option<CapabilityToken>
     requires { Ready d mem.old × (target < d.spaces) × (p ≤ d.places) × (k < d.places) }
     ensures { (result ≡ offer_of (offered_from d target p (type_of token.0) rights.0 k 1 mem.old))
         × (mem.new ≡ (offered_from d target p (type_of token.0) rights.0 k 1 mem.old).memory) }
 {
     if !is_open_child(mem, d, p, k) {
-        return Offer::Absent;
+        return None;
     }
     let child = token_of(id_at(mem, d, k), token.cap_type(), rights);
     if held_with(spaces::lookup(mem, d, target, child), rights) {
-        return Offer::Held(child);
+        return Some(child);
     }
-    Offer::Absent
+    None
 }
 
 // The first unrevoked child in list order that the target holds with these rights.
@@ -76,19 +62,18 @@ pub fn find_child(
     target: usize,
     token: CapabilityToken,
     rights: Rights,
-) -> Offer
+) -> Option<CapabilityToken>
     requires { Ready d mem.old × (target < d.spaces) }
     ensures { (result ≡ offer_of (offered d target token.0 rights.0 mem.old))
         × (mem.new ≡ (offered d target token.0 rights.0 mem.old).memory) }
 {
     let n = mem[REGISTERED] as usize;
     let p = place_of(mem, d, token.id());
-    let mut k = 0;
-    while k < n {
-        match offer_at(mem, d, target, token, rights, p, k) {
-            Offer::Held(child) => return Offer::Held(child),
-            Offer::Absent => k += 1,
+    for k in 0..n {
+        let child = offer_at(mem, d, target, token, rights, p, k);
+        if child.is_some() {
+            return child;
         }
     }
-    Offer::Absent
+    None
 }

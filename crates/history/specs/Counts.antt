@@ -6,8 +6,7 @@ use Rattle.std.specs.Prelude.{List, [], ◌∷◌, not, ℕ, ◌+◌, eqb, get_o
 use Rattle.answers.specs.Number.{number_of}
 use Rattle.base.specs.Below.{one}
 use Rattle.base.specs.Choose.{pick}
-use Rattle.steps.specs.Replies.{Left}
-use Rattle.steps.specs.declared.Reply.{Reply}
+use Rattle.steps.specs.Replies.{Left, Reply}
 use Rattle.world.specs.Numbers.{delegated_word}
 use Rattle.history.specs.Call.{Accepting, Call, open_world, reads, accepts, changes, space_insert, space_copy, space_create, create, delegate}
 use Rattle.history.specs.Perform.{accept, perform}

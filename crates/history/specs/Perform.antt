@@ -1,20 +1,17 @@
 -- What a call answers and leaves, as its contract fixes it, and a history: calls one after the other on one memory.
 use Rattle.std.specs.Prelude.{List, [], ◌∷◌, ℕ}
-use Rattle.answers.specs.declared.Answer.{Answer}
+use Rattle.answers.specs.Answer.{Answer}
 use Rattle.delegation_calls.specs.Delegation.{delegate_out}
 use Rattle.manager_calls.specs.Calls as manager
-use Rattle.manager_calls.specs.declared.StatsReply.{StatsReply}
-use Rattle.manager_calls.specs.declared.TreeReply.{TreeReply}
+use Rattle.manager_calls.specs.Calls.{StatsReply, TreeReply}
 use Rattle.notification_calls.specs.Calls as notification
-use Rattle.notification_calls.specs.declared.QueuesReply.{QueuesReply}
+use Rattle.notification_calls.specs.Calls.{QueuesReply}
 use Rattle.revocation_calls.specs.Calls as revocation
 use Rattle.revocation_reads.specs.Calls as revocation_reads
 use Rattle.space_calls.specs.Calls as space
 use Rattle.space_reads.specs.Calls as space_reads
-use Rattle.space_reads.specs.declared.EntryReply.{EntryReply}
-use Rattle.space_reads.specs.declared.StatsReply.{StatsReply as SpaceStatsReply}
-use Rattle.steps.specs.Replies.{Left, WithArea}
-use Rattle.steps.specs.declared.Reply.{Reply}
+use Rattle.space_reads.specs.Replies.{EntryReply, StatsReply as SpaceStatsReply}
+use Rattle.steps.specs.Replies.{Left, WithArea, Reply}
 use Rattle.world.specs.Open.{opening}
 use Rattle.history.specs.Call.{Reading, Accepting, Changing, Call, open_world, reads, accepts, changes}
 use Rattle.history.specs.Call.{space_used, space_quota, space_table_capacity, space_generation, space_stats, space_get_entry, space_nth_entry, is_valid, manager_stats, get_children, derivation_tree_stats, census, is_revoked, epoch, get_derivation_tree, peek_notifications, notification_count, notification_stats}

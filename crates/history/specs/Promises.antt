@@ -2,7 +2,7 @@
 -- an opening that was given 0 on a memory of any length and content; so it holds afresh of every further opening in the history.
 use Rattle.std.specs.Prelude.{Bool, true, false, List, [], ◌∷◌, ◌≢◌, ◌≡◌, ℕ, ◌+◌, ◌*◌, ◌^◌, ◌≤◌, ◌<◌, eqb, length, drop}
 use Rattle.answers.specs.Number.{number_of}
-use Rattle.answers.specs.declared.Answer.TheVariants.{Done, BadWorld}
+use Rattle.answers.specs.Answer.{Done, BadWorld}
 use Rattle.base.specs.Choose.{pick}
 use Rattle.manager_calls.specs.Calls as manager
 use Rattle.revocation_calls.specs.Calls as revocation

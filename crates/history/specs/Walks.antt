@@ -1,13 +1,12 @@
 -- Every walk over a table's slots that a call makes, for an id or for a free place: the live and removed entries that stand in the table
 -- when it begins, and the slots that it visits. A walk is named with the moment of the call at which it begins.
-use Rattle.std.specs.Prelude.{Bool, true, false, List, [], ◌∷◌, ◌≡◌, ℕ, suc, ◌+◌, ◌^◌, ◌≤◌, ◌<◌, None, Some}
+use Rattle.std.specs.Prelude.{Bool, true, false, List, [], ◌∷◌, ◌≡◌, ℕ, suc, ◌+◌, ◌^◌, ◌≤◌, ◌<◌, None, Some, Option}
 use Rattle.base.specs.Below.{sum, one}
 use Rattle.delegation_calls.specs.Delegation.{held_with, open_child, offered}
 use Rattle.manager_calls.specs.Tokens.{token_of, current}
 use Rattle.space.specs.Lookup.{looked_up, search_id}
 use Rattle.space.specs.Words.{generation_of, quota_of, table_of, slot_words}
 use Rattle.steps.specs.Steps.{space_of, lookup_step, taken_id, take_step, place_in, objects, register_step, list_step, collect_step, children_of}
-use Rattle.steps.specs.declared.Taken.TheVariants.{Id}
 use Rattle.table.specs.Copy.{insert_all}
 use Rattle.table.specs.Insert.{Table, live_entries, rebuilt, crowded, room_for, made_room, none}
 use Rattle.table.specs.Slots.{is_live, is_removed, id_at, id_of}
@@ -116,7 +115,7 @@ pub record MakesChild (d : Numbers) (target token rights : ℕ) (mem : List ℕ)
   pub roomy : List ℕ
   pub has_room : WithRoom d (place_in d mem (token_id token)) mem roomy
   pub id : ℕ
-  pub taken : taken_id d roomy ≡ Id id
+  pub taken : taken_id d roomy ≡ Some id
   pub walk : Derives d target token rights id (place_in d (take_step d roomy) (token_id token)) (take_step d roomy) w
 
 -- The walks of a delegation after its lookup in the source; that lookup found the token and is counted in mem; rights are the derived
@@ -165,13 +164,13 @@ pub data WalksOf (d : Numbers) (mem : List ℕ) : Call → Walk → Type 0 where
       (record { words = slot_words (space_of d target mem); counts = none; moved = 0 }) w
       → WalksOf d mem (accepts (space_copy target source)) w
   in_space_create :
-      (s rights object id : ℕ) (fits : rights < 2 ^ 32) (t : CapabilityToken) (w : Walk) → s < d.spaces → taken_id d mem ≡ Id id
+      (s rights object id : ℕ) (fits : rights < 2 ^ 32) (t : CapabilityToken) (w : Walk) → s < d.spaces → taken_id d mem ≡ Some id
       → made id (generation_of (space_of d s (take_step d mem))) 0 0 ≡ Ok t
       → InsertsInto (space_of d s (take_step d mem)) (token_id t.0) w
       → WalksOf d mem (accepts (space_create s rights object fits)) w
   in_create :
       (s object : ℕ) (valid : Bool) (cap_type rights id : ℕ) (fits : rights < 2 ^ 32) (w : Walk) → s < d.spaces
-      → taken_id d mem ≡ Id id → registered_of (take_step d mem) < d.places
+      → taken_id d mem ≡ Some id → registered_of (take_step d mem) < d.places
       → InsertsInto (space_of d s (register_step d id object 0 (take_step d mem))) (token_id (token_of id cap_type rights)) w
       → WalksOf d mem (accepts (create s object valid cap_type rights fits)) w
   in_delegate_source :

@@ -6,13 +6,15 @@ ghost use Rattle.manager_calls.specs.Calls.{create_out, delete_out, check_out, i
 ghost use Rattle.host.specs.Manager.{manager_answer, tree_answer};
 ghost use Rattle.host_replies.specs.Replies.{call_answer, told, area_answer};
 
+use answers::Refusal;
 use delegation_calls::delegate;
-use host_replies::{CallAnswer, answered};
+use host_replies::CallAnswer;
+use manager_calls::{Stats, Tree};
 use token::{CapabilityToken, Rights};
 
 // The answer's number, and the statistics of the manager.
 #[repr(C)]
-#[derive(Clone, Copy)]
+#[derive(Clone, Copy, PartialEq, Eq, Debug)]
 pub struct ManagerAnswer {
     pub answer: u8,
     pub created: u64,
@@ -23,11 +25,57 @@ pub struct ManagerAnswer {
 
 // The answer's number, how many capabilities have a list of delegations, and how many delegations there are.
 #[repr(C)]
-#[derive(Clone, Copy)]
+#[derive(Clone, Copy, PartialEq, Eq, Debug)]
 pub struct TreeAnswer {
     pub answer: u8,
     pub parents: u64,
     pub children: u64,
+}
+
+impl From<Result<Stats, Refusal>> for ManagerAnswer {
+    ghost use Rattle.host.specs.Manager.{ManagerAnswers};
+
+    ghost from_gives = { ManagerAnswers };
+
+    fn from(outcome: Result<Stats, Refusal>) -> Self {
+        match outcome {
+            Ok(stats) => ManagerAnswer {
+                answer: 0,
+                created: stats.created,
+                delegated: stats.delegated,
+                revoked: stats.revoked,
+                deleted: stats.deleted,
+            },
+            Err(refusal) => ManagerAnswer {
+                answer: refusal.into(),
+                created: 0,
+                delegated: 0,
+                revoked: 0,
+                deleted: 0,
+            },
+        }
+    }
+}
+
+impl From<Result<Tree, Refusal>> for TreeAnswer {
+    ghost use Rattle.host.specs.Manager.{TreeAnswers};
+
+    ghost from_gives = { TreeAnswers };
+
+    fn from(outcome: Result<Tree, Refusal>) -> Self {
+        match outcome {
+            Ok(tree) => TreeAnswer {
+                answer: 0,
+                parents: tree.parents,
+                children: tree.children,
+            },
+            Err(refusal) => TreeAnswer {
+                answer: refusal.into(),
+                parents: 0,
+                children: 0,
+            },
+        }
+    }
 }
 
 // ---- capabilities
@@ -44,7 +92,7 @@ pub extern "C" fn stonespry_create_capability(
     ensures { record { reply = result; memory = mem.new }
         ≡ told call_answer (create_out mem.old s object valid cap_type rights) }
 {
-    answered(manager_calls::create_capability(mem, s, object, valid, cap_type, Rights(rights)))
+    manager_calls::create_capability(mem, s, object, valid, cap_type, Rights(rights)).into()
 }
 
 #[unsafe(no_mangle)]
@@ -58,14 +106,14 @@ pub extern "C" fn stonespry_delegate(
     ensures { record { reply = result; memory = mem.new }
         ≡ told call_answer (delegate_out mem.old token source target rights) }
 {
-    answered(delegate(mem, CapabilityToken(token), source, target, Rights(rights)))
+    delegate(mem, CapabilityToken(token), source, target, Rights(rights)).into()
 }
 
 #[unsafe(no_mangle)]
 pub extern "C" fn stonespry_delete(mem: &mut [u64], token: u64) -> CallAnswer
     ensures { record { reply = result; memory = mem.new } ≡ told call_answer (delete_out mem.old token) }
 {
-    answered(manager_calls::delete(mem, CapabilityToken(token)))
+    manager_calls::delete(mem, CapabilityToken(token)).into()
 }
 
 #[unsafe(no_mangle)]
@@ -77,14 +125,14 @@ pub extern "C" fn stonespry_check_capability(
 ) -> CallAnswer
     ensures { record { reply = result; memory = mem.new } ≡ told call_answer (check_out mem.old token required s) }
 {
-    answered(manager_calls::check_capability(mem, CapabilityToken(token), Rights(required), s))
+    manager_calls::check_capability(mem, CapabilityToken(token), Rights(required), s).into()
 }
 
 #[unsafe(no_mangle)]
 pub extern "C" fn stonespry_is_valid(mem: &[u64], token: u64) -> CallAnswer
     ensures { result ≡ call_answer (is_valid_out mem.now token) }
 {
-    answered(manager_calls::is_valid(mem, CapabilityToken(token)))
+    manager_calls::is_valid(mem, CapabilityToken(token)).into()
 }
 
 // ---- what the manager says of itself
@@ -93,15 +141,7 @@ pub extern "C" fn stonespry_is_valid(mem: &[u64], token: u64) -> CallAnswer
 pub extern "C" fn stonespry_manager_stats(mem: &[u64]) -> ManagerAnswer
     ensures { result ≡ manager_answer (stats_out mem.now) }
 {
-    let reply = manager_calls::stats(mem);
-    let answer = reply.answer;
-    ManagerAnswer {
-        answer: answer.number(),
-        created: reply.created,
-        delegated: reply.delegated,
-        revoked: reply.revoked,
-        deleted: reply.deleted,
-    }
+    manager_calls::stats(mem).into()
 }
 
 #[unsafe(no_mangle)]
@@ -109,25 +149,19 @@ pub extern "C" fn stonespry_get_children(mem: &[u64], id: u64, area: &mut [u64])
     ensures { record { reply = result; area = area.new }
         ≡ area_answer (children_out mem.now id area.old) }
 {
-    answered(manager_calls::get_children(mem, id, area))
+    manager_calls::get_children(mem, id, area).into()
 }
 
 #[unsafe(no_mangle)]
 pub extern "C" fn stonespry_derivation_tree_stats(mem: &[u64]) -> TreeAnswer
     ensures { result ≡ tree_answer (tree_stats_out mem.now) }
 {
-    let reply = manager_calls::derivation_tree_stats(mem);
-    let answer = reply.answer;
-    TreeAnswer {
-        answer: answer.number(),
-        parents: reply.parents,
-        children: reply.children,
-    }
+    manager_calls::derivation_tree_stats(mem).into()
 }
 
 #[unsafe(no_mangle)]
 pub extern "C" fn stonespry_space_census(mem: &[u64], s: usize) -> CallAnswer
     ensures { result ≡ call_answer (census_out mem.now s) }
 {
-    answered(manager_calls::census(mem, s))
+    manager_calls::census(mem, s).into()
 }

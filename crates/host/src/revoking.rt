@@ -8,16 +8,39 @@ ghost use Rattle.revocation_reads.specs.Calls.{is_revoked_out, epoch_out, descen
 ghost use Rattle.host_replies.specs.Replies.{call_answer, told, area_answer};
 ghost use Rattle.host.specs.Revocation.{queues_answer};
 
-use host_replies::{CallAnswer, answered};
+use answers::Refusal;
+use host_replies::CallAnswer;
+use notification_calls::Queues;
 use token::CapabilityToken;
 
 // The answer's number, how many processes have notifications, and how many notifications there are.
 #[repr(C)]
-#[derive(Clone, Copy)]
+#[derive(Clone, Copy, PartialEq, Eq, Debug)]
 pub struct QueuesAnswer {
     pub answer: u8,
     pub processes: u64,
     pub notifications: u64,
+}
+
+impl From<Result<Queues, Refusal>> for QueuesAnswer {
+    ghost use Rattle.host.specs.Revocation.{QueuesAnswers};
+
+    ghost from_gives = { QueuesAnswers };
+
+    fn from(outcome: Result<Queues, Refusal>) -> Self {
+        match outcome {
+            Ok(queues) => QueuesAnswer {
+                answer: 0,
+                processes: queues.processes,
+                notifications: queues.notifications,
+            },
+            Err(refusal) => QueuesAnswer {
+                answer: refusal.into(),
+                processes: 0,
+                notifications: 0,
+            },
+        }
+    }
 }
 
 // ---- revoking
@@ -32,7 +55,7 @@ pub extern "C" fn stonespry_revoke(
     ensures { record { reply = result; memory = mem.new }
         ≡ told call_answer (revoke_out mem.old token time pids.now) }
 {
-    answered(revocation_calls::revoke(mem, CapabilityToken(token), time, pids))
+    revocation_calls::revoke(mem, CapabilityToken(token), time, pids).into()
 }
 
 #[unsafe(no_mangle)]
@@ -45,7 +68,7 @@ pub extern "C" fn stonespry_revoke_capability(
     ensures { record { reply = result; memory = mem.new }
         ≡ told call_answer (revoke_capability_out mem.old token time pids.now) }
 {
-    answered(revocation_calls::revoke_capability(mem, CapabilityToken(token), time, pids))
+    revocation_calls::revoke_capability(mem, CapabilityToken(token), time, pids).into()
 }
 
 #[unsafe(no_mangle)]
@@ -59,7 +82,7 @@ pub extern "C" fn stonespry_revoke_held(
     ensures { record { reply = result; memory = mem.new }
         ≡ told call_answer (revoke_held_out mem.old s token time pids.now) }
 {
-    answered(revocation_calls::revoke_held(mem, s, CapabilityToken(token), time, pids))
+    revocation_calls::revoke_held(mem, s, CapabilityToken(token), time, pids).into()
 }
 
 #[unsafe(no_mangle)]
@@ -72,7 +95,7 @@ pub extern "C" fn stonespry_revoke_batch(
     ensures { record { reply = result; memory = mem.new }
         ≡ told call_answer (revoke_batch_out mem.old tokens.now time pids.now) }
 {
-    answered(revocation_calls::revoke_batch(mem, tokens, time, pids))
+    revocation_calls::revoke_batch(mem, tokens, time, pids).into()
 }
 
 // ---- what revocation says of itself
@@ -81,14 +104,14 @@ pub extern "C" fn stonespry_revoke_batch(
 pub extern "C" fn stonespry_is_revoked(mem: &[u64], token: u64) -> CallAnswer
     ensures { result ≡ call_answer (is_revoked_out mem.now token) }
 {
-    answered(revocation_reads::is_revoked(mem, CapabilityToken(token)))
+    revocation_reads::is_revoked(mem, CapabilityToken(token)).into()
 }
 
 #[unsafe(no_mangle)]
 pub extern "C" fn stonespry_epoch(mem: &[u64]) -> CallAnswer
     ensures { result ≡ call_answer (epoch_out mem.now) }
 {
-    answered(revocation_reads::epoch(mem))
+    revocation_reads::epoch(mem).into()
 }
 
 #[unsafe(no_mangle)]
@@ -100,7 +123,7 @@ pub extern "C" fn stonespry_get_derivation_tree(
     ensures { record { reply = result; area = area.new }
         ≡ area_answer (descendants_out mem.now id area.old) }
 {
-    answered(revocation_reads::get_derivation_tree(mem, id, area))
+    revocation_reads::get_derivation_tree(mem, id, area).into()
 }
 
 // ---- notifications
@@ -116,7 +139,7 @@ pub extern "C" fn stonespry_notify_process(
     ensures { record { reply = result; memory = mem.new }
         ≡ told call_answer (notify_out mem.old pid id «reason» time) }
 {
-    answered(notification_calls::notify_process(mem, pid, id, reason, time))
+    notification_calls::notify_process(mem, pid, id, reason, time).into()
 }
 
 #[unsafe(no_mangle)]
@@ -128,7 +151,7 @@ pub extern "C" fn stonespry_drain_notifications(
     ensures { record { reply = record { reply = result; area = area.new }; memory = mem.new }
         ≡ told area_answer (drain_out mem.old pid area.old) }
 {
-    answered(notification_calls::drain_notifications(mem, pid, area))
+    notification_calls::drain_notifications(mem, pid, area).into()
 }
 
 #[unsafe(no_mangle)]
@@ -139,34 +162,28 @@ pub extern "C" fn stonespry_peek_notifications(
 ) -> CallAnswer
     ensures { record { reply = result; area = area.new } ≡ area_answer (peek_out mem.now pid area.old) }
 {
-    answered(notification_calls::peek_notifications(mem, pid, area))
+    notification_calls::peek_notifications(mem, pid, area).into()
 }
 
 #[unsafe(no_mangle)]
 pub extern "C" fn stonespry_notification_count(mem: &[u64], pid: u64) -> CallAnswer
     ensures { result ≡ call_answer (notification_count_out mem.now pid) }
 {
-    answered(notification_calls::notification_count(mem, pid))
+    notification_calls::notification_count(mem, pid).into()
 }
 
 #[unsafe(no_mangle)]
 pub extern "C" fn stonespry_cleanup_process_notifications(mem: &mut [u64], pid: u64) -> CallAnswer
     ensures { record { reply = result; memory = mem.new } ≡ told call_answer (cleanup_out mem.old pid) }
 {
-    answered(notification_calls::cleanup_process_notifications(mem, pid))
+    notification_calls::cleanup_process_notifications(mem, pid).into()
 }
 
 #[unsafe(no_mangle)]
 pub extern "C" fn stonespry_notification_stats(mem: &[u64]) -> QueuesAnswer
     ensures { result ≡ queues_answer (notification_stats_out mem.now) }
 {
-    let reply = notification_calls::notification_stats(mem);
-    let answer = reply.answer;
-    QueuesAnswer {
-        answer: answer.number(),
-        processes: reply.processes,
-        notifications: reply.notifications,
-    }
+    notification_calls::notification_stats(mem).into()
 }
 
 // The name of a reason; the area is bytes.
@@ -174,5 +191,5 @@ pub extern "C" fn stonespry_notification_stats(mem: &[u64]) -> QueuesAnswer
 pub extern "C" fn stonespry_write_reason(reason: u8, area: &mut [u8]) -> CallAnswer
     ensures { record { reply = result; area = area.new } ≡ area_answer (reason_out «reason» area.old) }
 {
-    answered(revocation_reads::write_reason(reason, area))
+    revocation_reads::write_reason(reason, area).into()
 }

@@ -3,7 +3,7 @@ ghost use Rattle.std.specs.Prelude.{◌≡◌};
 ghost use Rattle.request_run.specs.Run.{run_out};
 ghost use Rattle.host_replies.specs.Replies.{told, area_answer};
 
-use host_replies::{CallAnswer, answered};
+use host_replies::CallAnswer;
 
 // The value is how many bytes of `lines` are written.
 #[unsafe(no_mangle)]
@@ -11,5 +11,5 @@ pub extern "C" fn stonespry_run(records: &[u8], mem: &mut [u64], lines: &mut [u8
     ensures { record { reply = record { reply = result; area = lines.new }; memory = mem.new }
         ≡ told area_answer (run_out records.now mem.old lines.old) }
 {
-    answered(request_run::run(records, mem, lines))
+    request_run::run(records, mem, lines).into()
 }

@@ -2,8 +2,7 @@
 -- lent area; a proof search uses both for a call that leaves both.
 use Rattle.std.specs.Prelude.{List, ◌≡◌, ℕ}
 use Rattle.std.proofs.Common.{ap}
-use Rattle.steps.specs.Replies.{Left, WithArea}
-use Rattle.steps.specs.declared.Reply.{Reply}
+use Rattle.steps.specs.Replies.{Left, WithArea, Reply}
 use Rattle.host_replies.specs.Replies.{call_answer, told, area_answer}
 use Rattle.host_replies.specs.declared.CallAnswer.{CallAnswer}
 

@@ -6,13 +6,15 @@ ghost use Rattle.space_reads.specs.Calls.{used_out, quota_out, capacity_out, gen
 ghost use Rattle.host_replies.specs.Replies.{call_answer, told};
 ghost use Rattle.host_spaces.specs.Spaces.{entry_answer, stats_answer};
 
-use host_replies::{CallAnswer, answered};
-use space_reads::EntryReply;
+use answers::Refusal;
+use host_replies::CallAnswer;
+use space_reads::{FoundEntry, Stats};
+use steps::Refused;
 use token::{CapabilityToken, Rights};
 
 // The answer's number, an entry, and the slots that the search for it visited.
 #[repr(C)]
-#[derive(Clone, Copy)]
+#[derive(Clone, Copy, PartialEq, Eq, Debug)]
 pub struct EntryAnswer {
     pub answer: u8,
     pub token: u64,
@@ -24,7 +26,7 @@ pub struct EntryAnswer {
 
 // The answer's number, and the statistics of a space.
 #[repr(C)]
-#[derive(Clone, Copy)]
+#[derive(Clone, Copy, PartialEq, Eq, Debug)]
 pub struct StatsAnswer {
     pub answer: u8,
     pub hits: u64,
@@ -32,19 +34,53 @@ pub struct StatsAnswer {
     pub total_caps: u64,
 }
 
-fn entry_answered(reply: EntryReply) -> EntryAnswer
-    ensures { result ≡ entry_answer reply }
-{
-    let answer = reply.answer;
-    let token = reply.token;
-    let rights = reply.rights;
-    EntryAnswer {
-        answer: answer.number(),
-        token: token.0,
-        object: reply.object,
-        rights: rights.0,
-        uses: reply.uses,
-        visits: reply.visits as u64,
+impl From<Result<FoundEntry, Refused>> for EntryAnswer {
+    ghost use Rattle.host_spaces.specs.Spaces.{EntryAnswers};
+
+    ghost from_gives = { EntryAnswers };
+
+    fn from(outcome: Result<FoundEntry, Refused>) -> Self {
+        match outcome {
+            Ok(found) => EntryAnswer {
+                answer: 0,
+                token: found.entry.capability.0,
+                object: found.entry.object,
+                rights: found.entry.rights.0,
+                uses: found.entry.uses,
+                visits: found.visits as u64,
+            },
+            Err(refused) => EntryAnswer {
+                answer: refused.refusal.into(),
+                token: 0,
+                object: 0,
+                rights: 0,
+                uses: 0,
+                visits: refused.count as u64,
+            },
+        }
+    }
+}
+
+impl From<Result<Stats, Refusal>> for StatsAnswer {
+    ghost use Rattle.host_spaces.specs.Spaces.{StatsAnswers};
+
+    ghost from_gives = { StatsAnswers };
+
+    fn from(outcome: Result<Stats, Refusal>) -> Self {
+        match outcome {
+            Ok(stats) => StatsAnswer {
+                answer: 0,
+                hits: stats.hits,
+                misses: stats.misses,
+                total_caps: stats.total_caps,
+            },
+            Err(refusal) => StatsAnswer {
+                answer: refusal.into(),
+                hits: 0,
+                misses: 0,
+                total_caps: 0,
+            },
+        }
     }
 }
 
@@ -54,42 +90,35 @@ fn entry_answered(reply: EntryReply) -> EntryAnswer
 pub extern "C" fn stonespry_space_used(mem: &[u64], s: usize) -> CallAnswer
     ensures { result ≡ call_answer (used_out mem.now s) }
 {
-    answered(space_reads::used(mem, s))
+    space_reads::used(mem, s).into()
 }
 
 #[unsafe(no_mangle)]
 pub extern "C" fn stonespry_space_quota(mem: &[u64], s: usize) -> CallAnswer
     ensures { result ≡ call_answer (quota_out mem.now s) }
 {
-    answered(space_reads::quota(mem, s))
+    space_reads::quota(mem, s).into()
 }
 
 #[unsafe(no_mangle)]
 pub extern "C" fn stonespry_space_table_capacity(mem: &[u64], s: usize) -> CallAnswer
     ensures { result ≡ call_answer (capacity_out mem.now s) }
 {
-    answered(space_reads::table_capacity(mem, s))
+    space_reads::table_capacity(mem, s).into()
 }
 
 #[unsafe(no_mangle)]
 pub extern "C" fn stonespry_space_generation(mem: &[u64], s: usize) -> CallAnswer
     ensures { result ≡ call_answer (generation_out mem.now s) }
 {
-    answered(space_reads::generation(mem, s))
+    space_reads::generation(mem, s).into()
 }
 
 #[unsafe(no_mangle)]
 pub extern "C" fn stonespry_space_stats(mem: &[u64], s: usize) -> StatsAnswer
     ensures { result ≡ stats_answer (stats_out mem.now s) }
 {
-    let reply = space_reads::stats(mem, s);
-    let answer = reply.answer;
-    StatsAnswer {
-        answer: answer.number(),
-        hits: reply.hits,
-        misses: reply.misses,
-        total_caps: reply.total_caps,
-    }
+    space_reads::stats(mem, s).into()
 }
 
 // ---- finding entries
@@ -98,14 +127,14 @@ pub extern "C" fn stonespry_space_stats(mem: &[u64], s: usize) -> StatsAnswer
 pub extern "C" fn stonespry_space_lookup(mem: &mut [u64], s: usize, token: u64) -> CallAnswer
     ensures { record { reply = result; memory = mem.new } ≡ told call_answer (lookup_out mem.old s token) }
 {
-    answered(space_reads::lookup(mem, s, CapabilityToken(token)))
+    space_reads::lookup(mem, s, CapabilityToken(token)).into()
 }
 
 #[unsafe(no_mangle)]
 pub extern "C" fn stonespry_space_lookup_entry(mem: &mut [u64], s: usize, token: u64) -> EntryAnswer
     ensures { record { reply = result; memory = mem.new } ≡ told entry_answer (lookup_entry_out mem.old s token) }
 {
-    entry_answered(space_reads::lookup_entry(mem, s, CapabilityToken(token)))
+    space_reads::lookup_entry(mem, s, CapabilityToken(token)).into()
 }
 
 #[unsafe(no_mangle)]
@@ -118,21 +147,21 @@ pub extern "C" fn stonespry_space_check_rights(
     ensures { record { reply = result; memory = mem.new }
         ≡ told call_answer (check_rights_out mem.old s token required) }
 {
-    answered(space_reads::check_rights(mem, s, CapabilityToken(token), Rights(required)))
+    space_reads::check_rights(mem, s, CapabilityToken(token), Rights(required)).into()
 }
 
 #[unsafe(no_mangle)]
 pub extern "C" fn stonespry_space_get_entry(mem: &[u64], s: usize, id: u64) -> EntryAnswer
     ensures { result ≡ entry_answer (get_entry_out mem.now s id) }
 {
-    entry_answered(space_reads::get_entry(mem, s, id))
+    space_reads::get_entry(mem, s, id).into()
 }
 
 #[unsafe(no_mangle)]
 pub extern "C" fn stonespry_space_nth_entry(mem: &[u64], s: usize, n: usize) -> EntryAnswer
     ensures { result ≡ entry_answer (nth_entry_out mem.now s n) }
 {
-    entry_answered(space_reads::nth_entry(mem, s, n))
+    space_reads::nth_entry(mem, s, n).into()
 }
 
 // ---- changing a space
@@ -148,42 +177,42 @@ pub extern "C" fn stonespry_space_insert(
     ensures { record { reply = result; memory = mem.new }
         ≡ told call_answer (insert_call_out mem.old s token object rights) }
 {
-    answered(space_calls::insert(mem, s, CapabilityToken(token), object, Rights(rights)))
+    space_calls::insert(mem, s, CapabilityToken(token), object, Rights(rights)).into()
 }
 
 #[unsafe(no_mangle)]
 pub extern "C" fn stonespry_space_remove(mem: &mut [u64], s: usize, token: u64) -> CallAnswer
     ensures { record { reply = result; memory = mem.new } ≡ told call_answer (remove_out mem.old s token) }
 {
-    answered(space_calls::remove(mem, s, CapabilityToken(token)))
+    space_calls::remove(mem, s, CapabilityToken(token)).into()
 }
 
 #[unsafe(no_mangle)]
 pub extern "C" fn stonespry_space_increment_generation(mem: &mut [u64], s: usize) -> CallAnswer
     ensures { record { reply = result; memory = mem.new } ≡ told call_answer (increment_out mem.old s) }
 {
-    answered(space_calls::increment_generation(mem, s))
+    space_calls::increment_generation(mem, s).into()
 }
 
 #[unsafe(no_mangle)]
 pub extern "C" fn stonespry_space_clear(mem: &mut [u64], s: usize) -> CallAnswer
     ensures { record { reply = result; memory = mem.new } ≡ told call_answer (clear_out mem.old s) }
 {
-    answered(space_calls::clear(mem, s))
+    space_calls::clear(mem, s).into()
 }
 
 #[unsafe(no_mangle)]
 pub extern "C" fn stonespry_space_revoke_all(mem: &mut [u64], s: usize) -> CallAnswer
     ensures { record { reply = result; memory = mem.new } ≡ told call_answer (revoke_all_out mem.old s) }
 {
-    answered(space_calls::revoke_all(mem, s))
+    space_calls::revoke_all(mem, s).into()
 }
 
 #[unsafe(no_mangle)]
 pub extern "C" fn stonespry_space_copy(mem: &mut [u64], target: usize, source: usize) -> CallAnswer
     ensures { record { reply = result; memory = mem.new } ≡ told call_answer (copy_out mem.old target source) }
 {
-    answered(space_calls::copy(mem, target, source))
+    space_calls::copy(mem, target, source).into()
 }
 
 // ---- ids
@@ -192,7 +221,7 @@ pub extern "C" fn stonespry_space_copy(mem: &mut [u64], target: usize, source: u
 pub extern "C" fn stonespry_alloc_cap_id(mem: &mut [u64]) -> CallAnswer
     ensures { record { reply = result; memory = mem.new } ≡ told call_answer (alloc_out mem.old) }
 {
-    answered(space_calls::alloc_cap_id(mem))
+    space_calls::alloc_cap_id(mem).into()
 }
 
 #[unsafe(no_mangle)]
@@ -204,12 +233,12 @@ pub extern "C" fn stonespry_space_create_capability(
 ) -> CallAnswer
     ensures { record { reply = result; memory = mem.new } ≡ told call_answer (create_out mem.old s rights object) }
 {
-    answered(space_calls::create_capability(mem, s, Rights(rights), object))
+    space_calls::create_capability(mem, s, Rights(rights), object).into()
 }
 
 #[unsafe(no_mangle)]
 pub extern "C" fn stonespry_space_revoke(mem: &mut [u64], s: usize, id: u64) -> CallAnswer
     ensures { record { reply = result; memory = mem.new } ≡ told call_answer (revoke_out mem.old s id) }
 {
-    answered(space_calls::revoke(mem, s, id))
+    space_calls::revoke(mem, s, id).into()
 }

@@ -37,5 +37,8 @@ pub extern "C" fn stonespry_open(
         pairs,
         queues,
     };
-    world::open::open(mem, d, quotas).number()
+    match world::open::open(mem, d, quotas) {
+        Ok(()) => 0,
+        Err(refusal) => refusal.into(),
+    }
 }

@@ -2,14 +2,13 @@
 -- two ways of an admission.
 use Rattle.std.proofs.Common.{false, List, ◌≡◌, sym, ap, ◌∙◌, ℕ, ◌-◌, ◌<◌, ◌≤◌, arith, ne_eqb, eqb}
 use Rattle.answers.specs.Number.{number_of}
-use Rattle.answers.specs.declared.Answer.TheVariants.{OutOfMemory}
+use Rattle.answers.specs.Answer.{OutOfMemory}
 use Rattle.space.specs.Change.{InsertOut, insert_out}
 use Rattle.space.proofs.laws.Insert.{zero_is_done}
 use Rattle.steps.proofs.laws.ReadyKept.{Stays, Leaves, register_leaves}
 use Rattle.steps.specs.Ready.{Ready}
-use Rattle.steps.specs.Replies.{Left, refuse}
+use Rattle.steps.specs.Replies.{Left, refuse, Reply}
 use Rattle.steps.specs.Steps.{space_of, new_entry, insert_step, insert_reply, register_step, unregister_step, recycle_step, add_step}
-use Rattle.steps.specs.declared.Reply.{Reply}
 use Rattle.world.specs.Numbers.{registered_of, recycled_of}
 use Rattle.world.specs.declared.Numbers.{Numbers}
 use Rattle.manager_calls.specs.Admit.{admitted}

@@ -2,12 +2,11 @@
 -- it, the registering is undone. d are the numbers of a sound memory. The value is the token, the count the entries that the insert moved.
 use Rattle.std.specs.Prelude.{List, ℕ, ◌-◌, eqb}
 use Rattle.answers.specs.Number.{number_of}
-use Rattle.answers.specs.declared.Answer.TheVariants.{Done, OutOfMemory}
+use Rattle.answers.specs.Answer.{Done, OutOfMemory}
 use Rattle.base.specs.Choose.{pick}
 use Rattle.space.specs.Change.{insert_out}
-use Rattle.steps.specs.Replies.{Left, replied, refuse}
+use Rattle.steps.specs.Replies.{Left, replied, refuse, Reply}
 use Rattle.steps.specs.Steps.{space_of, new_entry, insert_step, unregister_step, recycle_step, add_step}
-use Rattle.steps.specs.declared.Reply.{Reply}
 use Rattle.world.specs.Numbers.{registered_of}
 use Rattle.world.specs.declared.Numbers.{Numbers}
 

@@ -1,19 +1,17 @@
 -- The calls of the manager but revoke and delegate, children and their statistics, and the census: what each answers and leaves, on every
 -- memory and every argument. Document 01's order of refusals: 26, 20, 21, then the source's.
-use Rattle.std.specs.Prelude.{Bool, false, not, List, ℕ, ◌^◌, leb, ltb, get_or, Option, None, Some}
-use Rattle.answers.specs.declared.Answer.{Answer}
-use Rattle.answers.specs.declared.Answer.TheVariants.{Done, InsufficientRights, CapabilityRevoked, InvalidObject, NotFound, IdExhausted, BadField, RegistryFull, RecycleFull}
+use Rattle.std.specs.Prelude.{Bool, false, not, List, ℕ, ◌^◌, leb, ltb, get_or, Option, None, Some, Result, Ok, Err}
+use Rattle.answers.specs.Answer.{Answer, Done, Refuses, InsufficientRights, CapabilityRevoked, InvalidObject, NotFound, IdExhausted, BadField, RegistryFull, RecycleFull}
+use Rattle.answers.specs.declared.Refusal.{Refusal}
 use Rattle.base.specs.Below.{one}
 use Rattle.base.specs.Choose.{both, when}
 use Rattle.registry.specs.Children.{child_ids, parents, edges, strays}
 use Rattle.space.specs.Ids.{entry_ids}
 use Rattle.space.specs.Lookup.{looked_up}
 use Rattle.steps.specs.Enter.{on_world, on_space}
-use Rattle.steps.specs.Replies.{Left, WithArea, replied, done, refusal, refuse, into_area}
+use Rattle.steps.specs.Replies.{Left, WithArea, replied, done, refusal, refuse, into_area, Reply}
 use Rattle.steps.specs.Steps.{space_of, lookup_step, taken_id, take_step, place_in, register_step, unregister_step, recycle_step, add_step}
-use Rattle.steps.specs.declared.Reply.{Reply}
-use Rattle.steps.specs.declared.Taken.{Taken}
-use Rattle.steps.specs.declared.Taken.TheVariants.{Id, Exhausted}
+use Rattle.table.specs.declared.CapabilityEntry.{CapabilityEntry}
 use Rattle.token.specs.Rights.{holds}
 use Rattle.token.specs.Token.{id_of}
 use Rattle.world.specs.Numbers.{created_word, delegated_word, revoked_word, deleted_word, registered_of, recycled_of}
@@ -24,13 +22,15 @@ use Rattle.manager_calls.specs.Tokens.{token_of, current}
 use Rattle.manager_calls.specs.declared.StatsReply.{StatsReply}
 use Rattle.manager_calls.specs.declared.TreeReply.{TreeReply}
 use Rattle.table.specs.declared.CapabilityEntry.{CapabilityEntry}
+use Rattle.manager_calls.specs.declared.Stats.{Stats}
+use Rattle.manager_calls.specs.declared.Tree.{Tree}
 
 -- ---- create
 
 -- Once an id was asked for: 9 where none is left, 22 where R ids are registered already.
-abbrev pub created : Numbers → ℕ → ℕ → ℕ → ℕ → List ℕ → Taken → Left Reply
-created d s object cap_type rights mem Exhausted = refuse mem IdExhausted
-created d s object cap_type rights mem (Id id) =
+abbrev pub created : Numbers → ℕ → ℕ → ℕ → ℕ → List ℕ → Option ℕ → Left Reply
+created d s object cap_type rights mem None = refuse mem IdExhausted
+created d s object cap_type rights mem (Some id) =
     when (not (ltb (registered_of mem) d.places)) (refuse (recycle_step d id mem) RegistryFull)
     (admitted d s id (token_of id cap_type rights) object rights created_word (register_step d id object 0 mem))
 
@@ -82,6 +82,14 @@ is_valid_out mem token = on_world refusal mem (λ d. done (one (valid_in d mem t
 
 -- ---- what the manager says of itself
 
+-- The statistics of the manager, zeros on a refusal.
+pub record StatsReply : Type 0 where
+  pub answer : Answer
+  pub created : ℕ
+  pub delegated : ℕ
+  pub revoked : ℕ
+  pub deleted : ℕ
+
 abbrev pub no_stats : Answer → StatsReply
 no_stats answer = record { answer = answer; created = 0; delegated = 0; revoked = 0; deleted = 0 }
 
@@ -96,12 +104,24 @@ stats_out mem =
       deleted = get_or mem deleted_word 0;
     })
 
+-- What the code's outcome tells.
+abbrev pub told_stats : Result Stats Refusal → StatsReply
+told_stats (Ok stats) =
+    record { answer = Done; created = stats.created; delegated = stats.delegated; revoked = stats.revoked; deleted = stats.deleted }
+told_stats (Err refusal) = no_stats (Refuses refusal)
+
 -- The children of an id in list order, to the area. 21 for an id over 2^48-1 too.
 unfoldable pub children_out : List ℕ → ℕ → List ℕ → WithArea
 children_out mem id area =
     on_world (λ a. record { reply = refusal a; area = area }) mem (λ d.
     when (leb (2 ^ 48) id) (record { reply = refusal BadField; area = area })
     (into_area (child_ids d.places (place_in d mem id) (registered_of mem) (view d registry mem)) area))
+
+-- How many capabilities have a list of delegations, and how many delegations there are, zeros on a refusal.
+pub record TreeReply : Type 0 where
+  pub answer : Answer
+  pub parents : ℕ
+  pub children : ℕ
 
 abbrev pub no_tree : Answer → TreeReply
 no_tree answer = record { answer = answer; parents = 0; children = 0 }
@@ -112,6 +132,11 @@ tree_stats_out mem =
     on_world no_tree mem (λ d.
     let rg = view d registry mem in
     record { answer = Done; parents = parents d.places (registered_of mem) rg; children = edges d.places (registered_of mem) rg })
+
+-- What the code's outcome tells.
+abbrev pub told_tree : Result Tree Refusal → TreeReply
+told_tree (Ok tree) = record { answer = Done; parents = tree.parents; children = tree.children }
+told_tree (Err refusal) = no_tree (Refuses refusal)
 
 -- A census of a space counts its strays, entries whose id is not registered.
 unfoldable pub census_out : List ℕ → ℕ → Reply

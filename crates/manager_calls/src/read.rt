@@ -1,92 +1,65 @@
 // What the manager says of itself: its statistics, the children of a capability, the derivation tree, the strays of a space.
 ghost use Rattle.std.specs.Prelude.{◌≡◌};
-ghost use Rattle.manager_calls.specs.Calls.{no_stats, stats_out, children_out, no_tree, tree_stats_out, census_out};
+ghost use Rattle.steps.specs.Replies.{told};
+ghost use Rattle.manager_calls.specs.Calls.{told_stats, told_tree, stats_out, children_out, tree_stats_out, census_out};
 
-use super::{StatsReply, TreeReply};
-use answers::Answer;
+use super::{Stats, Tree};
+use answers::Refusal;
 use space_steps::spaces;
 use steps::enter::{enter_space, enter_world};
-use steps::replies::{done, refusal};
-use steps::{Entered, Reply, registered};
+use steps::{Done, Refused, registered};
 use world::head::{CREATED, DELEGATED, DELETED, REVOKED};
 
-fn no_stats(answer: Answer) -> StatsReply
-    ensures { result ≡ no_stats answer }
+/// The statistics of the manager.
+#[tactic(auto, unfolding(crate::specs::Calls::stats_out, steps::specs::Enter::on_world))]
+pub fn stats(mem: &[u64]) -> Result<Stats, Refusal>
+    ensures { told_stats result ≡ stats_out mem.now }
 {
-    StatsReply {
-        answer,
-        created: 0,
-        delegated: 0,
-        revoked: 0,
-        deleted: 0,
-    }
+    enter_world(mem)?;
+    Ok(Stats {
+        created: mem[CREATED],
+        delegated: mem[DELEGATED],
+        revoked: mem[REVOKED],
+        deleted: mem[DELETED],
+    })
 }
 
-pub fn stats(mem: &[u64]) -> StatsReply
-    ensures { result ≡ stats_out mem.now }
+/// The children of an id in list order, to the front of `area`; the value is how many. 21 for an id of more than 48 bits, or an area that is
+/// too short for them.
+#[tactic(auto, unfolding(crate::specs::Calls::children_out, steps::specs::Enter::on_world, steps::specs::Replies::into_area, base::specs::Choose::when))]
+pub fn get_children(mem: &[u64], id: u64, area: &mut [u64]) -> Result<Done, Refused>
+    ensures { record { reply = told result; area = area.new } ≡ children_out mem.now id area.old }
 {
-    match enter_world(mem) {
-        Entered::Refused(answer) => no_stats(answer),
-        Entered::Good(_) => StatsReply {
-            answer: Answer::Done,
-            created: mem[CREATED],
-            delegated: mem[DELEGATED],
-            revoked: mem[REVOKED],
-            deleted: mem[DELETED],
-        },
+    let d = enter_world(mem)?;
+    if 0x1_0000_0000_0000 <= id {
+        Err(Refusal::BadField)?;
     }
+    let p = registered::place_of(mem, d, id);
+    let count = registered::child_count(mem, d, p);
+    if area.len() < count {
+        Err(Refusal::BadField)?;
+    }
+    registered::list_children(mem, d, p, area);
+    Ok(Done::with(count as u64))
 }
 
-// The children of an id in list order, to the front of `area`; the value is how many.
-pub fn get_children(mem: &[u64], id: u64, area: &mut [u64]) -> Reply
-    ensures { record { reply = result; area = area.new } ≡ children_out mem.now id area.old }
+/// How many capabilities have a list of delegations, and how many delegations there are.
+#[tactic(auto, unfolding(crate::specs::Calls::tree_stats_out, steps::specs::Enter::on_world))]
+pub fn derivation_tree_stats(mem: &[u64]) -> Result<Tree, Refusal>
+    ensures { told_tree result ≡ tree_stats_out mem.now }
 {
-    match enter_world(mem) {
-        Entered::Refused(answer) => refusal(answer),
-        Entered::Good(d) => {
-            if 0x1_0000_0000_0000 <= id {
-                return refusal(Answer::BadField);
-            }
-            let p = registered::place_of(mem, d, id);
-            let count = registered::child_count(mem, d, p);
-            if area.len() < count {
-                return refusal(Answer::BadField);
-            }
-            registered::list_children(mem, d, p, area);
-            done(count as u64)
-        }
-    }
+    let d = enter_world(mem)?;
+    Ok(Tree {
+        parents: registered::parents(mem, d) as u64,
+        children: registered::edges(mem, d) as u64,
+    })
 }
 
-fn no_tree(answer: Answer) -> TreeReply
-    ensures { result ≡ no_tree answer }
+/// How many entries of a space have an id that is not registered.
+#[tactic(auto, unfolding(crate::specs::Calls::census_out, steps::specs::Enter::on_space))]
+pub fn census(mem: &[u64], s: usize) -> Result<Done, Refused>
+    ensures { told result ≡ census_out mem.now s }
 {
-    TreeReply {
-        answer,
-        parents: 0,
-        children: 0,
-    }
-}
-
-pub fn derivation_tree_stats(mem: &[u64]) -> TreeReply
-    ensures { result ≡ tree_stats_out mem.now }
-{
-    match enter_world(mem) {
-        Entered::Refused(answer) => no_tree(answer),
-        Entered::Good(d) => TreeReply {
-            answer: Answer::Done,
-            parents: registered::parents(mem, d) as u64,
-            children: registered::edges(mem, d) as u64,
-        },
-    }
-}
-
-// How many entries of a space have an id that is not registered.
-pub fn census(mem: &[u64], s: usize) -> Reply
-    ensures { result ≡ census_out mem.now s }
-{
-    match enter_space(mem, s) {
-        Entered::Refused(answer) => refusal(answer),
-        Entered::Good(d) => done(spaces::strays(mem, d, s) as u64),
-    }
+    let d = enter_space(mem, s)?;
+    Ok(Done::with(spaces::strays(mem, d, s) as u64))
 }

@@ -27,8 +27,5 @@ pub fn is_current(mem: &[u64], d: Numbers, token: CapabilityToken, k: usize) -> 
     ensures { result ≡ current d mem.now token.0 k }
 {
     let generation = state_at(mem, d, k) % 2;
-    if generation == 0 {
-        return token.generation() as u64 == generation;
-    }
-    false
+    generation == 0 && token.generation() as u64 == generation
 }

@@ -6,8 +6,7 @@ use Rattle.revocation.specs.NoticesLaws.{length_notices}
 use Rattle.revocation_steps.specs.Revocation.{queue_for, free_step}
 use Rattle.steps.proofs.WorldCalls.{world_calls}
 use Rattle.steps.proofs.laws.Ready.{queues_ready_at}
-use Rattle.steps.specs.Replies.{WithArea, done}
-use Rattle.steps.specs.declared.Reply.{Reply}
+use Rattle.steps.specs.Replies.{WithArea, done, Reply}
 use Rattle.world.specs.Regions.{queue, view}
 use Rattle.world.specs.Sound.{SoundAt, lengths}
 use Rattle.world.specs.declared.Numbers.{Numbers}

@@ -1,20 +1,19 @@
 -- The calls for notifications: what each answers and leaves, on every memory and every argument. Document 01's order of refusals: 26, 21,
 -- 25.
-use Rattle.std.specs.Prelude.{not, List, [], ℕ, ◌^◌, leb, ltb, length}
-use Rattle.answers.specs.declared.Answer.{Answer}
-use Rattle.answers.specs.declared.Answer.TheVariants.{Done, BadField, PidTableFull}
+use Rattle.std.specs.Prelude.{not, List, [], ℕ, ◌^◌, leb, ltb, length, Result, Ok, Err}
+use Rattle.answers.specs.Answer.{Answer, Done, Refuses, BadField, PidTableFull}
+use Rattle.answers.specs.declared.Refusal.{Refusal}
 use Rattle.base.specs.Below.{sum, one}
 use Rattle.base.specs.Choose.{pick, both, when}
 use Rattle.base.specs.Written.{written}
 use Rattle.revocation.specs.Queue.{notices}
 use Rattle.revocation_steps.specs.Revocation.{queue_for, free_queue, notify_step, free_step}
 use Rattle.steps.specs.Enter.{on_world}
-use Rattle.steps.specs.Replies.{Left, WithArea, done, refusal, refuse}
-use Rattle.steps.specs.declared.Reply.{Reply}
+use Rattle.steps.specs.Replies.{Left, WithArea, done, refusal, refuse, Reply}
 use Rattle.world.specs.Regions.{queue, view}
 use Rattle.world.specs.Sound.{lengths}
 use Rattle.world.specs.declared.Numbers.{Numbers}
-use Rattle.notification_calls.specs.declared.QueuesReply.{QueuesReply}
+use Rattle.notification_calls.specs.declared.Queues.{Queues}
 
 -- ---- a notice for a pid
 
@@ -68,7 +67,12 @@ cleanup_out mem pid =
 
 -- ---- the notices of all
 
--- A refusal has zeros.
+-- How many processes have notifications, and how many notifications there are, zeros on a refusal.
+pub record QueuesReply : Type 0 where
+  pub answer : Answer
+  pub processes : ℕ
+  pub notifications : ℕ
+
 abbrev pub no_queues : Answer → QueuesReply
 no_queues answer = record { answer = answer; processes = 0; notifications = 0 }
 
@@ -81,3 +85,8 @@ notification_stats_out mem =
       processes = sum (λ q. one (ltb 0 (lengths d mem q))) d.queues;
       notifications = sum (lengths d mem) d.queues;
     })
+
+-- What the code's outcome tells.
+abbrev pub told_queues : Result Queues Refusal → QueuesReply
+told_queues (Ok queues) = record { answer = Done; processes = queues.processes; notifications = queues.notifications }
+told_queues (Err refusal) = no_queues (Refuses refusal)

@@ -1,14 +1,15 @@
 // The notices of one process: seen, taken, counted, dropped. A process without a queue has none.
 ghost use Rattle.std.specs.Prelude.{◌≡◌, ◌*◌, ◌≤◌, length};
+ghost use Rattle.base.specs.Written.{written};
 ghost use Rattle.steps.specs.Ready.{Fits};
+ghost use Rattle.steps.specs.Replies.{told};
 ghost use Rattle.world.specs.Sound.{SoundAt};
-ghost use Rattle.notification_calls.specs.Calls.{count_for, peeked, peek_out, without, drain_out, notification_count_out, cleanup_out};
+ghost use Rattle.notification_calls.specs.Calls.{count_for, notices_for, peek_out, without, drain_out, notification_count_out, cleanup_out};
 
-use answers::Answer;
+use answers::Refusal;
 use revocation_steps::queues::{copy_notices, free_at, queue_for, queue_length};
 use steps::enter::enter_world;
-use steps::replies::{done, refusal};
-use steps::{Entered, Reply};
+use steps::{Done, Refused};
 use world::Numbers;
 
 // How many notices the queue at place q has, 0 past the last place.
@@ -23,32 +24,29 @@ fn count_for(mem: &[u64], d: Numbers, q: usize) -> u64
 }
 
 // The notices of the queue at place q, which has `count`, go to the front of the area.
-fn copy_for(mem: &[u64], d: Numbers, q: usize, count: u64, area: &mut [u64]) -> Reply
+fn copy_for(mem: &[u64], d: Numbers, q: usize, count: u64, area: &mut [u64])
     requires { SoundAt d mem.now × (count ≡ count_for d mem.now q) × (3 * count ≤ length area.old) }
-    ensures { record { reply = result; area = area.new } ≡ peeked d mem.now q area.old }
+    ensures { area.new ≡ written (notices_for d mem.now q) area.old }
 {
     if 0 < count {
         copy_notices(mem, d, q, area);
-        return done(count);
     }
-    done(0)
 }
 
-// The notices of a pid, oldest first, three words each, to the front of the area; the value is how many.
-pub fn peek_notifications(mem: &[u64], pid: u64, area: &mut [u64]) -> Reply
-    ensures { record { reply = result; area = area.new } ≡ peek_out mem.now pid area.old }
+/// The notices of a pid, oldest first, three words each, to the front of the area; the value is how many. 21 for an area that is too short
+/// for them.
+#[tactic(auto, unfolding(crate::specs::Calls::peek_out, steps::specs::Enter::on_world, base::specs::Choose::when))]
+pub fn peek_notifications(mem: &[u64], pid: u64, area: &mut [u64]) -> Result<Done, Refused>
+    ensures { record { reply = told result; area = area.new } ≡ peek_out mem.now pid area.old }
 {
-    match enter_world(mem) {
-        Entered::Refused(answer) => refusal(answer),
-        Entered::Good(d) => {
-            let q = queue_for(mem, d, pid);
-            let count = count_for(mem, d, q);
-            if area.len() < 3 * count as usize {
-                return refusal(Answer::BadField);
-            }
-            copy_for(mem, d, q, count, area)
-        }
+    let d = enter_world(mem)?;
+    let q = queue_for(mem, d, pid);
+    let count = count_for(mem, d, q);
+    if area.len() < 3 * count as usize {
+        Err(Refusal::BadField)?;
     }
+    copy_for(mem, d, q, count, area);
+    Ok(Done::with(count))
 }
 
 // The queue at place q, if there is one, is no more.
@@ -61,47 +59,40 @@ fn remove_queue(mem: &mut [u64], d: Numbers, q: usize)
     }
 }
 
-// The same as a peek, and the queue is then no more.
-pub fn drain_notifications(mem: &mut [u64], pid: u64, area: &mut [u64]) -> Reply
-    ensures { record { reply = record { reply = result; area = area.new }; memory = mem.new }
+/// The same as a peek, and the queue is then no more.
+#[tactic(auto, unfolding(crate::specs::Calls::drain_out, steps::specs::Enter::on_world, base::specs::Choose::when))]
+pub fn drain_notifications(mem: &mut [u64], pid: u64, area: &mut [u64]) -> Result<Done, Refused>
+    ensures { record { reply = record { reply = told result; area = area.new }; memory = mem.new }
         ≡ drain_out mem.old pid area.old }
 {
-    match enter_world(mem) {
-        Entered::Refused(answer) => refusal(answer),
-        Entered::Good(d) => {
-            let q = queue_for(mem, d, pid);
-            let count = count_for(mem, d, q);
-            if area.len() < 3 * count as usize {
-                return refusal(Answer::BadField);
-            }
-            let reply = copy_for(mem, d, q, count, area);
-            remove_queue(mem, d, q);
-            reply
-        }
+    let d = enter_world(mem)?;
+    let q = queue_for(mem, d, pid);
+    let count = count_for(mem, d, q);
+    if area.len() < 3 * count as usize {
+        Err(Refusal::BadField)?;
     }
+    copy_for(mem, d, q, count, area);
+    remove_queue(mem, d, q);
+    Ok(Done::with(count))
 }
 
-pub fn notification_count(mem: &[u64], pid: u64) -> Reply
-    ensures { result ≡ notification_count_out mem.now pid }
+/// How many notices a pid has.
+#[tactic(auto, unfolding(crate::specs::Calls::notification_count_out, steps::specs::Enter::on_world))]
+pub fn notification_count(mem: &[u64], pid: u64) -> Result<Done, Refused>
+    ensures { told result ≡ notification_count_out mem.now pid }
 {
-    match enter_world(mem) {
-        Entered::Refused(answer) => refusal(answer),
-        Entered::Good(d) => {
-            let q = queue_for(mem, d, pid);
-            done(count_for(mem, d, q))
-        }
-    }
+    let d = enter_world(mem)?;
+    let q = queue_for(mem, d, pid);
+    Ok(Done::with(count_for(mem, d, q)))
 }
 
-pub fn cleanup_process_notifications(mem: &mut [u64], pid: u64) -> Reply
-    ensures { record { reply = result; memory = mem.new } ≡ cleanup_out mem.old pid }
+/// Drops the notices of a pid, and its queue.
+#[tactic(auto, unfolding(crate::specs::Calls::cleanup_out, steps::specs::Enter::on_world))]
+pub fn cleanup_process_notifications(mem: &mut [u64], pid: u64) -> Result<Done, Refused>
+    ensures { record { reply = told result; memory = mem.new } ≡ cleanup_out mem.old pid }
 {
-    match enter_world(mem) {
-        Entered::Refused(answer) => refusal(answer),
-        Entered::Good(d) => {
-            let q = queue_for(mem, d, pid);
-            remove_queue(mem, d, q);
-            done(0)
-        }
-    }
+    let d = enter_world(mem)?;
+    let q = queue_for(mem, d, pid);
+    remove_queue(mem, d, q);
+    Ok(Done::with(0))
 }

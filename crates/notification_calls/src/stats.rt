@@ -3,12 +3,11 @@ ghost use Rattle.std.specs.Prelude.{◌≡◌, ltb};
 ghost use Rattle.base.specs.Below.{sum, one};
 ghost use Rattle.steps.specs.Ready.{Fits};
 ghost use Rattle.world.specs.Sound.{SoundAt, lengths};
-ghost use Rattle.notification_calls.specs.Calls.{no_queues, notification_stats_out};
+ghost use Rattle.notification_calls.specs.Calls.{told_queues, notification_stats_out};
 
-use super::QueuesReply;
-use answers::Answer;
+use super::Queues;
+use answers::Refusal;
 use revocation_steps::queues::queue_length;
-use steps::Entered;
 use steps::enter::enter_world;
 use world::Numbers;
 
@@ -18,12 +17,8 @@ fn used_queues(mem: &[u64], d: Numbers) -> usize
     ensures { result ≡ sum (λ q. one (ltb 0 (lengths d mem.now q))) d.queues }
 {
     let mut used = 0;
-    let mut q = 0;
-    while q < d.queues {
-        if 0 < queue_length(mem, d, q) {
-            used += 1;
-        }
-        q += 1;
+    for q in 0..d.queues {
+        used += (0 < queue_length(mem, d, q)) as usize;
     }
     used
 }
@@ -34,33 +29,20 @@ fn all_notices(mem: &[u64], d: Numbers) -> u64
     ensures { result ≡ sum (lengths d mem.now) d.queues }
 {
     let mut notices = 0;
-    let mut q = 0;
-    while q < d.queues {
+    for q in 0..d.queues {
         notices += queue_length(mem, d, q);
-        q += 1;
     }
     notices
 }
 
-fn no_queues(answer: Answer) -> QueuesReply
-    ensures { result ≡ no_queues answer }
+/// How many processes have notifications, and how many notifications there are.
+#[tactic(auto, unfolding(crate::specs::Calls::notification_stats_out, steps::specs::Enter::on_world))]
+pub fn notification_stats(mem: &[u64]) -> Result<Queues, Refusal>
+    ensures { told_queues result ≡ notification_stats_out mem.now }
 {
-    QueuesReply {
-        answer,
-        processes: 0,
-        notifications: 0,
-    }
-}
-
-pub fn notification_stats(mem: &[u64]) -> QueuesReply
-    ensures { result ≡ notification_stats_out mem.now }
-{
-    match enter_world(mem) {
-        Entered::Refused(answer) => no_queues(answer),
-        Entered::Good(d) => QueuesReply {
-            answer: Answer::Done,
-            processes: used_queues(mem, d) as u64,
-            notifications: all_notices(mem, d),
-        },
-    }
+    let d = enter_world(mem)?;
+    Ok(Queues {
+        processes: used_queues(mem, d) as u64,
+        notifications: all_notices(mem, d),
+    })
 }

@@ -1,12 +1,11 @@
 -- Document 01: a field that an op does not read must be zero (else 21), by a fixed table over the ops. 20 first where the op reads a space
 -- number of S or more. An op outside 1..15 answers 21.
-use Rattle.std.specs.Prelude.{Bool, true, not, List, [], ◌∷◌, ℕ, ◌/◌, ◌%◌, ◌^◌, eqb, ltb, get_or}
-use Rattle.answers.specs.declared.Answer.TheVariants.{BadSpace, BadField}
+use Rattle.std.specs.Prelude.{Bool, true, not, List, [], ◌∷◌, ℕ, ◌/◌, ◌%◌, ◌^◌, eqb, ltb, get_or, ⊤, tt, Result, Ok, Err}
+use Rattle.answers.specs.declared.Refusal.{Refusal}
+use Rattle.answers.specs.declared.Refusal.TheVariants.{BadSpace, BadField}
 use Rattle.base.specs.Below.{all}
 use Rattle.base.specs.Choose.{pick, both, when}
 use Rattle.request.specs.declared.Request.{Request}
-use Rattle.request.specs.declared.Verdict.{Verdict}
-use Rattle.request.specs.declared.Verdict.TheVariants.{Good, Refused}
 
 -- The fields by number: 0 space, 1 second space, 2 valid, 3 type, 4 rights, 5 word A, 6 word B.
 abbrev pub field_at : Request → ℕ → ℕ
@@ -44,9 +43,9 @@ zero_unread r = both (all 7 (λ i. pick (reads r.op i) true (eqb (field_at r i) 
 unfoldable pub too_far : Request → ℕ → Bool
 too_far r spaces = not (all 2 (λ i. pick (reads r.op i) (ltb (field_at r i) spaces) true))
 
-unfoldable pub verdict_of : Request → ℕ → Verdict
+unfoldable pub verdict_of : Request → ℕ → Result ⊤ Refusal
 verdict_of r spaces =
-    when (eqb r.op 0) (Refused BadField)
-    (when (ltb 15 r.op) (Refused BadField)
-    (when (too_far r spaces) (Refused BadSpace)
-    (when (not (zero_unread r)) (Refused BadField) Good)))
+    when (eqb r.op 0) (Err BadField)
+    (when (ltb 15 r.op) (Err BadField)
+    (when (too_far r spaces) (Err BadSpace)
+    (when (not (zero_unread r)) (Err BadField) (Ok tt))))

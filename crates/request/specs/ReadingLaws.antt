@@ -1,23 +1,22 @@
 -- When a record's call is made and when it is refused, in words of its fields.
-use Rattle.std.specs.Prelude.{◌≡◌, refl, ◌↔◌, ◌≢◌, Bool, true, false, not, ℕ, ◌<◌, ◌≤◌, eqb, ltb}
+use Rattle.std.specs.Prelude.{◌≡◌, refl, ◌↔◌, ◌≢◌, Bool, true, false, not, ℕ, ◌<◌, ◌≤◌, eqb, ltb, ⊤, tt, Result, Ok, Err}
 use Rattle.std.proofs.Common.{sym, true≢false, arith, ltb-false, le-ltb, ne_eqb}
 use Rattle.std.proofs.lemmas.Bool.{eqb-false, not-false}
 use Rattle.std.proofs.Math.Logic.Iff
-use Rattle.answers.specs.declared.Answer.TheVariants.{BadSpace, BadField}
+use Rattle.answers.specs.declared.Refusal.{Refusal}
+use Rattle.answers.specs.declared.Refusal.TheVariants.{BadSpace, BadField}
 use Rattle.base.specs.Choose.{pick, when}
 use Rattle.base.specs.Exactly.{leb_exactly, eqb_exactly, both_exactly, asked_exactly, all_exactly}
 use Rattle.request.specs.declared.Request.{Request}
-use Rattle.request.specs.declared.Verdict.{Verdict}
-use Rattle.request.specs.declared.Verdict.TheVariants.{Good, Refused}
 use Rattle.request.specs.Reading.{field_at, reads, zero_unread, too_far, verdict_of}
 
 -- The order of the refusals, by the outcomes of its tests.
-abbrev order : Bool → Bool → Bool → Bool → Verdict
+abbrev order : Bool → Bool → Bool → Bool → Result ⊤ Refusal
 order none past far clear =
-    when none (Refused BadField)
-    (when past (Refused BadField) (when far (Refused BadSpace) (when (not clear) (Refused BadField) Good)))
+    when none (Err BadField)
+    (when past (Err BadField) (when far (Err BadSpace) (when (not clear) (Err BadField) (Ok tt))))
 
-order_good : (a b c d : Bool) → (order a b c d ≡ Good) ↔ ((a ≡ false) × (b ≡ false) × (c ≡ false) × (d ≡ true))
+order_good : (a b c d : Bool) → (order a b c d ≡ Ok tt) ↔ ((a ≡ false) × (b ≡ false) × (c ≡ false) × (d ≡ true))
 unfolding when
 order_good true b c d = (λ e. (cc, cc, cc, cc), λ h. cc)
 order_good false true c d = (λ e. (cc, cc, cc, cc), λ h. cc)
@@ -25,7 +24,7 @@ order_good false false true d = (λ e. (cc, cc, cc, cc), λ h. cc)
 order_good false false false true = (λ e. (cc, cc, cc, cc), λ h. cc)
 order_good false false false false = (λ e. (cc, cc, cc, cc), λ h. cc)
 
-order_space : (a b c d : Bool) → (order a b c d ≡ Refused BadSpace) ↔ ((a ≡ false) × (b ≡ false) × (c ≡ true))
+order_space : (a b c d : Bool) → (order a b c d ≡ Err BadSpace) ↔ ((a ≡ false) × (b ≡ false) × (c ≡ true))
 unfolding when
 order_space true b c d = (λ e. (cc, cc, cc), λ h. cc)
 order_space false true c d = (λ e. (cc, cc, cc), λ h. cc)
@@ -33,7 +32,7 @@ order_space false false true d = (λ e. (cc, cc, cc), λ h. cc)
 order_space false false false true = (λ e. (cc, cc, cc), λ h. cc)
 order_space false false false false = (λ e. (cc, cc, cc), λ h. cc)
 
-order_field : (a b c d : Bool) → (order a b c d ≡ Refused BadField) ↔ (a ≡ false → b ≡ false → (c ≡ false) × (d ≡ false))
+order_field : (a b c d : Bool) → (order a b c d ≡ Err BadField) ↔ (a ≡ false → b ≡ false → (c ≡ false) × (d ≡ false))
 unfolding when
 order_field true b c d = (λ e u v. (cc, cc), λ h. refl)
 order_field false true c d = (λ e u v. (cc, cc), λ h. refl)
@@ -87,16 +86,16 @@ module _ (r : Request) where
     far_exactly = opposite (too_far r spaces) false near_exactly
 
     -- The call is made exactly for an op that is listed, with its space numbers below S and nothing in the fields that it does not read;
-    pub good_exactly : (verdict_of r spaces ≡ Good) ↔ ((1 ≤ r.op) × (r.op ≤ 15) × Near × Clear)
+    pub good_exactly : (verdict_of r spaces ≡ Ok tt) ↔ ((1 ≤ r.op) × (r.op ≤ 15) × Near × Clear)
     unfolding verdict_of
     good_exactly = simp (order_good, none_exactly, past_exactly, near_exactly, clear_exactly) Iff.rfl
 
     -- 20 is given exactly for an op that is listed, where a space number is S or more;
-    pub space_exactly : (verdict_of r spaces ≡ Refused BadSpace) ↔ ((1 ≤ r.op) × (r.op ≤ 15) × ¬ Near)
+    pub space_exactly : (verdict_of r spaces ≡ Err BadSpace) ↔ ((1 ≤ r.op) × (r.op ≤ 15) × ¬ Near)
     unfolding verdict_of
     space_exactly = simp (order_space, none_exactly, past_exactly, far_exactly) Iff.rfl
 
     -- and 21 exactly where the op is not listed, or else its space numbers are below S and a field that it does not read is not zero.
-    pub field_exactly : (verdict_of r spaces ≡ Refused BadField) ↔ (1 ≤ r.op → r.op ≤ 15 → Near × ¬ Clear)
+    pub field_exactly : (verdict_of r spaces ≡ Err BadField) ↔ (1 ≤ r.op → r.op ≤ 15 → Near × ¬ Clear)
     unfolding verdict_of
     field_exactly = simp (order_field, none_exactly, past_exactly, near_exactly, stray_exactly) Iff.rfl

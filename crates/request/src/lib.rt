@@ -6,13 +6,12 @@ mod line;
 mod masks;
 mod record;
 
-use answers::Answer;
 pub use line::write_line;
 pub use masks::judge;
 pub use record::request_of;
 
 // A record, field by field; the flag of validity is a bit.
-#[derive(Clone, Copy)]
+#[derive(Clone, Copy, PartialEq, Eq, Debug)]
 pub struct Request {
     pub op: u64,
     pub space: u64,
@@ -23,11 +22,4 @@ pub struct Request {
     pub zero: u64,
     pub a: u64,
     pub b: u64,
-}
-
-// Whether a record's call is made.
-#[derive(Clone, Copy)]
-pub enum Verdict {
-    Good,
-    Refused(Answer),
 }

@@ -3,8 +3,8 @@ ghost use Rattle.std.specs.Prelude.{true, not, ◌≡◌, ◌%◌, ◌≤◌, eq
 ghost use Rattle.base.specs.Choose.{pick};
 ghost use Rattle.request.specs.Reading.{masks, zero_unread, too_far, verdict_of};
 
-use super::{Request, Verdict};
-use answers::Answer;
+use super::Request;
+use answers::Refusal;
 
 // The fields that each operation reads, from 0 to 15, a bit a field, the lowest bit first: space, second space, valid, type, rights,
 // word A, word B.
@@ -25,10 +25,7 @@ fn mask_of(op: u64) -> u8
 fn is_stray(mask: u8, field: u64) -> bool
     ensures { result ≡ not (pick (eqb (mask % 2) 1) true (eqb field 0)) }
 {
-    if mask % 2 == 1 {
-        return false;
-    }
-    field != 0
+    mask % 2 != 1 && field != 0
 }
 
 // Whether every field that the operation does not read is zero.
@@ -53,10 +50,7 @@ fn zero_unread(r: Request) -> bool
 fn is_far(mask: u8, number: u64, spaces: u64) -> bool
     ensures { result ≡ not (pick (eqb (mask % 2) 1) (ltb number spaces) true) }
 {
-    if mask % 2 == 1 {
-        return !(number < spaces);
-    }
-    false
+    mask % 2 == 1 && spaces <= number
 }
 
 // Whether the operation reads a space number of S or more.
@@ -65,27 +59,24 @@ fn too_far(r: Request, spaces: u64) -> bool
     ensures { result ≡ too_far r spaces }
 {
     let mask = mask_of(r.op);
-    if is_far(mask, r.space, spaces) {
-        return true;
-    }
-    is_far(mask / 2, r.second, spaces)
+    is_far(mask, r.space, spaces) || is_far(mask / 2, r.second, spaces)
 }
 
 // 21 for an operation outside 1..15; 20; 21 for a field that is not read and not zero.
-pub fn judge(r: Request, spaces: u64) -> Verdict
+pub fn judge(r: Request, spaces: u64) -> Result<(), Refusal>
     ensures { result ≡ verdict_of r spaces }
 {
     if r.op == 0 {
-        return Verdict::Refused(Answer::BadField);
+        return Err(Refusal::BadField);
     }
     if 15 < r.op {
-        return Verdict::Refused(Answer::BadField);
+        return Err(Refusal::BadField);
     }
     if too_far(r, spaces) {
-        return Verdict::Refused(Answer::BadSpace);
+        return Err(Refusal::BadSpace);
     }
     if !zero_unread(r) {
-        return Verdict::Refused(Answer::BadField);
+        return Err(Refusal::BadField);
     }
-    Verdict::Good
+    Ok(())
 }

@@ -3,9 +3,9 @@ use Rattle.std.specs.Prelude.{◌≡◌, ◌≢◌, Bool, true, false, List, [],
 use Rattle.std.proofs.Common.{sym, ◌∙◌, append_assoc, arith, eqb-true, ltb-true, ltb-false, lt-ltb, le-ltb, ap}
 use Rattle.std.proofs.lemmas.Bool.{eqb-false}
 use Rattle.answers.specs.Number.{number_of}
-use Rattle.answers.specs.declared.Answer.TheVariants.{BadField}
+use Rattle.answers.specs.Answer.{BadField}
 use Rattle.base.specs.Choose.{pick}
-use Rattle.steps.specs.declared.Reply.{Reply}
+use Rattle.steps.specs.Replies.{Reply}
 use Rattle.request.specs.Lines.{line_of}
 use Rattle.request.specs.Record.{request_of}
 use Rattle.request_run.specs.Run.{Run, answered, ended, through, line_for, run_from, whole_run}

@@ -1,9 +1,9 @@
 -- Document 01, "Request stream program": what each record's call answers and leaves, and the lines of a whole run.
-use Rattle.std.specs.Prelude.{not, ◌≡◌, ℕ, zero, suc, ◌+◌, ◌-◌, ◌*◌, ◌/◌, ◌≤◌, eqb, ltb, length, get_or, List, [], ◌∷◌, ◌++◌}
+use Rattle.std.specs.Prelude.{not, ◌≡◌, ℕ, zero, suc, ◌+◌, ◌-◌, ◌*◌, ◌/◌, ◌≤◌, eqb, ltb, length, get_or, List, [], ◌∷◌, ◌++◌, ⊤, Result, Ok, Err}
 use mathlib.Core.List.{replicate}
 use Rattle.answers.specs.Number as answers
-use Rattle.answers.specs.declared.Answer.{Answer}
-use Rattle.answers.specs.declared.Answer.TheVariants.{BadField}
+use Rattle.answers.specs.Answer.{Answer, Refuses, BadField}
+use Rattle.answers.specs.declared.Refusal.{Refusal}
 use Rattle.base.specs.Choose.{pick, when}
 use Rattle.base.specs.Written.{written}
 use Rattle.delegation_calls.specs.Delegation.{delegate_out}
@@ -12,8 +12,7 @@ use Rattle.notification_calls.specs.Calls as notification
 use Rattle.revocation_calls.specs.Calls as revocation
 use Rattle.space_calls.specs.Calls as space
 use Rattle.space_reads.specs.Calls.{lookup_out}
-use Rattle.steps.specs.Replies.{Left, WithArea, done, refusal, refuse}
-use Rattle.steps.specs.declared.Reply.{Reply}
+use Rattle.steps.specs.Replies.{Left, WithArea, done, refusal, refuse, Reply}
 use Rattle.world.specs.Open.{opened, opening}
 use Rattle.world.specs.declared.Numbers.{Numbers}
 use Rattle.request.specs.Laid.{Laid}
@@ -21,8 +20,6 @@ use Rattle.request.specs.Lines.{line_of}
 use Rattle.request.specs.Reading.{verdict_of}
 use Rattle.request.specs.Record.{request_of}
 use Rattle.request.specs.declared.Request.{Request}
-use Rattle.request.specs.declared.Verdict.{Verdict}
-use Rattle.request.specs.declared.Verdict.TheVariants.{Good, Refused}
 
 -- It opens 4 spaces of quota 32 (M 32, R 512, V 512, P 2), pids 1 and 2.
 abbrev pub numbers : Numbers
@@ -71,9 +68,9 @@ unfoldable pub called : Request → List ℕ → Left Reply
 called r mem = when (ltb r.op 6) (called_1_to_5 r mem) (when (ltb r.op 11) (called_6_to_10 r mem) (called_11_to_15 r mem))
 
 -- A record is refused before its call, or its call is made, in the program's world, which is sound and has 4 spaces (`run_stays`).
-abbrev pub judged : Verdict → Request → List ℕ → Left Reply
-judged (Refused answer) r mem = refuse mem answer
-judged Good r mem = called r mem
+abbrev pub judged : Result ⊤ Refusal → Request → List ℕ → Left Reply
+judged (Err refusal) r mem = refuse mem (Refuses refusal)
+judged (Ok made) r mem = called r mem
 
 unfoldable pub answered : Request → List ℕ → Left Reply
 answered r mem = judged (verdict_of r numbers.spaces) r mem

@@ -1,10 +1,10 @@
 // The call that a good record asks for.
 ghost use Rattle.std.specs.Prelude.{◌≡◌, ◌^◌, ◌<◌, ◌≤◌};
+ghost use Rattle.steps.specs.Replies.{told};
 ghost use Rattle.request_run.specs.Run.{drained, called_1_to_5, called_6_to_10, called_11_to_15, called, answered};
 
-use request::{Request, Verdict, judge};
-use steps::Reply;
-use steps::replies::refusal;
+use request::{Request, judge};
+use steps::{Done, Refused};
 use token::{CapabilityToken, Rights};
 
 // The spaces of the program's world.
@@ -14,17 +14,17 @@ const SPACES: u64 = 4;
 const PIDS: [u64; 2] = [1, 2];
 
 // The notices go to an area of its own.
-fn drain(mem: &mut [u64], pid: u64) -> Reply
-    ensures { record { reply = result; memory = mem.new } ≡ drained pid mem.old }
+fn drain(mem: &mut [u64], pid: u64) -> Result<Done, Refused>
+    ensures { record { reply = told result; memory = mem.new } ≡ drained pid mem.old }
 {
     let mut area = [0u64; 768];
     notification_calls::drain_notifications(mem, pid, &mut area)
 }
 
 // Create, delegate, lookup, check, remove.
-fn call_1_to_5(r: Request, mem: &mut [u64]) -> Reply
+fn call_1_to_5(r: Request, mem: &mut [u64]) -> Result<Done, Refused>
     requires { (r.cap_type ≤ 15) × (r.rights < 2 ^ 32) }
-    ensures { record { reply = result; memory = mem.new } ≡ called_1_to_5 r mem.old }
+    ensures { record { reply = told result; memory = mem.new } ≡ called_1_to_5 r mem.old }
 {
     let s = r.space as usize;
     let token = CapabilityToken(r.a);
@@ -52,8 +52,8 @@ fn call_1_to_5(r: Request, mem: &mut [u64]) -> Reply
 }
 
 // Delete, held revoke, clear, copy, `revoke_all`.
-fn call_6_to_10(r: Request, mem: &mut [u64]) -> Reply
-    ensures { record { reply = result; memory = mem.new } ≡ called_6_to_10 r mem.old }
+fn call_6_to_10(r: Request, mem: &mut [u64]) -> Result<Done, Refused>
+    ensures { record { reply = told result; memory = mem.new } ≡ called_6_to_10 r mem.old }
 {
     let s = r.space as usize;
     if r.op == 6 {
@@ -72,9 +72,9 @@ fn call_6_to_10(r: Request, mem: &mut [u64]) -> Reply
 }
 
 // Insert, space-made create, space revoke, drain, `revoke_capability`.
-fn call_11_to_15(r: Request, mem: &mut [u64]) -> Reply
+fn call_11_to_15(r: Request, mem: &mut [u64]) -> Result<Done, Refused>
     requires { r.rights < 2 ^ 32 }
-    ensures { record { reply = result; memory = mem.new } ≡ called_11_to_15 r mem.old }
+    ensures { record { reply = told result; memory = mem.new } ≡ called_11_to_15 r mem.old }
 {
     let s = r.space as usize;
     let rights = Rights(r.rights as u32);
@@ -93,9 +93,9 @@ fn call_11_to_15(r: Request, mem: &mut [u64]) -> Reply
     revocation_calls::revoke_capability(mem, CapabilityToken(r.a), r.b, &PIDS)
 }
 
-fn call(r: Request, mem: &mut [u64]) -> Reply
+fn call(r: Request, mem: &mut [u64]) -> Result<Done, Refused>
     requires { (r.cap_type ≤ 15) × (r.rights < 2 ^ 32) }
-    ensures { record { reply = result; memory = mem.new } ≡ called r mem.old }
+    ensures { record { reply = told result; memory = mem.new } ≡ called r mem.old }
 {
     if r.op < 6 {
         return call_1_to_5(r, mem);
@@ -107,12 +107,10 @@ fn call(r: Request, mem: &mut [u64]) -> Reply
 }
 
 // A record is refused before its call, or its call is made.
-pub fn answer(r: Request, mem: &mut [u64]) -> Reply
+pub fn answer(r: Request, mem: &mut [u64]) -> Result<Done, Refused>
     requires { (r.cap_type ≤ 15) × (r.rights < 2 ^ 32) }
-    ensures { record { reply = result; memory = mem.new } ≡ answered r mem.old }
+    ensures { record { reply = told result; memory = mem.new } ≡ answered r mem.old }
 {
-    match judge(r, SPACES) {
-        Verdict::Refused(a) => refusal(a),
-        Verdict::Good => call(r, mem),
-    }
+    judge(r, SPACES)?;
+    call(r, mem)
 }

@@ -4,14 +4,14 @@
 
 ghost use Rattle.std.specs.Prelude.{◌≡◌, ◌+◌, ◌*◌, ◌<◌, ◌≤◌, length};
 ghost use Rattle.base.specs.Written.{written};
+ghost use Rattle.steps.specs.Replies.{told};
 ghost use Rattle.request_run.specs.Run as spec;
 
 mod calls;
 
-use answers::Answer;
+use answers::Refusal;
 use request::{request_of, write_line};
-use steps::Reply;
-use steps::replies::{done, refusal};
+use steps::{Done, Refused};
 use world::Numbers;
 use world::open::open;
 
@@ -21,8 +21,8 @@ const WORDS: usize = 5687;
 // Room for 2,049 lines of 28 bytes.
 pub const ROOM: usize = 57372;
 
-// What a record that is not read answers: `Answer::BadField` as a number.
-const BAD_FIELD: u8 = 21;
+// What a record that is not read answers.
+const BAD_FIELD: u8 = Refusal::BadField as u8;
 
 // The operations whose value is printed, from 0 to 15.
 const VALUED: [u8; 16] = [0, 1, 1, 1, 0, 1, 0, 0, 0, 0, 0, 0, 1, 0, 1, 0];
@@ -53,16 +53,11 @@ fn serve(
     ensures { spec.Served records.now at number mem.old mem.new end lines.old lines.new result }
 {
     let r = request_of(records, at);
-    let reply = calls::answer(r, mem);
-    let answer = reply.answer;
-    write_line(
-        lines,
-        end,
-        number,
-        r.op,
-        answer.number(),
-        printed(r.op, reply.value),
-    )
+    let (answer, value) = match calls::answer(r, mem) {
+        Ok(done) => (0, done.value),
+        Err(refused) => (u8::from(refused.refusal), 0),
+    };
+    write_line(lines, end, number, r.op, answer, printed(r.op, value))
 }
 
 // The records, 2,048 at most, each with its line; answers the place behind the last line.
@@ -103,14 +98,14 @@ fn lines_for(n: usize) -> usize
     (n + 23) / 24
 }
 
-// Opens the program's world and serves the records; the value is how many bytes of `lines` are written.
-pub fn run(records: &[u8], mem: &mut [u64], lines: &mut [u8]) -> Reply
-    ensures mem_after { record { reply = record { reply = result; area = lines.new }; memory = mem.new }
+/// Opens the program's world and serves the records; the value is how many bytes of `lines` are written.
+pub fn run(records: &[u8], mem: &mut [u64], lines: &mut [u8]) -> Result<Done, Refused>
+    ensures mem_after { record { reply = record { reply = told result; area = lines.new }; memory = mem.new }
         ≡ spec.run_out records.now mem.old lines.old }
-    ensures value_in_bounds { result.value ≤ length lines.new }
+    ensures value_in_bounds { (told result).value ≤ length lines.new }
 {
     if lines.len() < 28 * lines_for(records.len()) {
-        return refusal(Answer::BadField);
+        Err(Refusal::BadField)?;
     }
     let d = Numbers {
         spaces: 4,
@@ -119,20 +114,19 @@ pub fn run(records: &[u8], mem: &mut [u64], lines: &mut [u8]) -> Reply
         pairs: 512,
         queues: 2,
     };
-    let opened = open(mem, d, &[32, 32, 32, 32]);
-    if opened.number() != 0 {
-        return refusal(opened);
-    }
-    done(serve_all(records, mem, lines) as u64)
+    open(mem, d, &[32, 32, 32, 32])?;
+    Ok(Done::with(serve_all(records, mem, lines) as u64))
 }
 
-// The whole program but its input and output: a run on a memory of its own. Answers how many bytes of `lines` are written.
+/// The whole program but its input and output: a run on a memory of its own. Answers how many bytes of `lines` are written.
 pub fn run_alone(records: &[u8], lines: &mut [u8; ROOM]) -> usize
     ensures lines_after { (lines.new ≡ written (spec.program_lines records.now) lines.old)
         × (result ≡ length (spec.program_lines records.now)) }
     ensures upper_bound { result ≤ length lines.new }
 {
     let mut mem = [0u64; WORDS];
-    let reply = run(records, &mut mem, lines);
-    reply.value as usize
+    match run(records, &mut mem, lines) {
+        Ok(done) => done.value as usize,
+        Err(_) => 0,
+    }
 }

@@ -1,13 +1,12 @@
 -- The calls that revoke: what each answers and leaves, on every memory and every argument. Document 01's order of refusals: 26, 20, 21,
 -- then the source's; 24 before 25. `listed` is the process list, of at most 32 pids, else 21.
 use Rattle.std.specs.Prelude.{not, List, ℕ, ltb, length}
-use Rattle.answers.specs.declared.Answer.TheVariants.{InvalidCapability, BadField}
+use Rattle.answers.specs.Answer.{InvalidCapability, BadField}
 use Rattle.base.specs.Choose.{when}
 use Rattle.space.specs.Lookup.{looked_up}
 use Rattle.steps.specs.Enter.{on_world, on_space}
-use Rattle.steps.specs.Replies.{Left, refuse}
+use Rattle.steps.specs.Replies.{Left, refuse, Reply}
 use Rattle.steps.specs.Steps.{space_of, lookup_step, place_in}
-use Rattle.steps.specs.declared.Reply.{Reply}
 use Rattle.token.specs.Token.{id_of}
 use Rattle.world.specs.Numbers.{registered_of}
 use Rattle.cascade.specs.Cascade.{revoking}

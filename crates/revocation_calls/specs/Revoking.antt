@@ -2,15 +2,15 @@
 -- process list.
 use Rattle.std.specs.Prelude.{not, List, [], ◌∷◌, ℕ, ◌+◌, eqb, ltb, length, Option, None, Some}
 use Rattle.answers.specs.Number.{number_of}
-use Rattle.answers.specs.declared.Answer.TheVariants.{InsufficientRights, NotFound, LogFull}
+use Rattle.answers.specs.Answer.{InsufficientRights, NotFound, LogFull}
 use Rattle.base.specs.Below.{one}
 use Rattle.base.specs.Choose.{pick, when}
 use Rattle.cascade.specs.Cascade.{revoking}
 use Rattle.revocation.specs.Log.{pair_of, absent_of}
-use Rattle.steps.specs.Replies.{Left, replied, done, refuse}
+use Rattle.steps.specs.Replies.{Left, replied, done, refuse, Reply}
 use Rattle.revocation_steps.specs.Revocation.{log_of, log_step}
 use Rattle.steps.specs.Steps.{place_in, add_step}
-use Rattle.steps.specs.declared.Reply.{Reply}
+
 use Rattle.table.specs.declared.CapabilityEntry.{CapabilityEntry}
 use Rattle.token.specs.Rights.{REVOKE, holds}
 use Rattle.token.specs.Token.{id_of, generation_of}

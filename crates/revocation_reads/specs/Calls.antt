@@ -1,6 +1,6 @@
 -- What revocation says of itself: what each call answers, on every memory and every argument. 26 comes before 21.
 use Rattle.std.specs.Prelude.{List, [], ℕ, ◌^◌, leb, ltb, drop}
-use Rattle.answers.specs.declared.Answer.TheVariants.{BadField}
+use Rattle.answers.specs.Answer.{BadField}
 use Rattle.base.specs.Below.{one}
 use Rattle.base.specs.Choose.{pick, when}
 use Rattle.registry.specs.Children.{ids_at}
@@ -9,9 +9,8 @@ use Rattle.revocation.specs.Log.{pair_of, log_has}
 use Rattle.revocation.specs.Reason.{reason_of, name_of}
 use Rattle.revocation_steps.specs.Revocation.{log_of}
 use Rattle.steps.specs.Enter.{on_world}
-use Rattle.steps.specs.Replies.{WithArea, done, refusal, into_area}
+use Rattle.steps.specs.Replies.{WithArea, done, refusal, into_area, Reply}
 use Rattle.steps.specs.Steps.{place_in}
-use Rattle.steps.specs.declared.Reply.{Reply}
 use Rattle.token.specs.Token.{id_of, generation_of}
 use Rattle.world.specs.Numbers.{epoch_of, registered_of, logged_of}
 use Rattle.world.specs.Regions.{registry, view}

@@ -1,94 +1,88 @@
 // What revocation says of itself: whether a token is in the log, the epoch, the descendants of an id, and the names of its reasons. No call
-// asks anything of its arguments or of the memory: each but `write_reason`, which has no memory, looks first, and refuses by document 01's
-// table.
+// asks anything of its arguments or of the memory: each but `write_reason`, which has no memory, looks first, and refuses by the table
+// of answers.
 #![tactic(auto)]
 
 ghost use Rattle.std.specs.Prelude.{◌≡◌, ◌<◌};
-ghost use Rattle.steps.specs.Replies.{into_area};
+ghost use Rattle.steps.specs.Replies.{into_area, told};
 ghost use Rattle.world.specs.Numbers.{registered_of};
 ghost use Rattle.world.specs.Sound.{SoundAt};
 ghost use Rattle.revocation_reads.specs.Calls.{is_revoked_out, epoch_out, descendants, descendants_out, reason_out};
 
-use answers::Answer;
+use answers::Refusal;
 use revocation::reason_of;
 use revocation_steps::descent::{descend, ids_at};
 use revocation_steps::log::has_pair;
 use steps::enter::enter_world;
 use steps::registered::place_of;
-use steps::replies::{done, refusal};
-use steps::{Entered, Reply};
+use steps::{Done, Refused};
 use token::CapabilityToken;
 use world::Numbers;
 use world::head::{EPOCH, REGISTERED};
 
-// Whether the log has the token's pair: 1 or 0.
-pub fn is_revoked(mem: &[u64], token: CapabilityToken) -> Reply
-    ensures { result ≡ is_revoked_out mem.now token.0 }
+/// Whether the log has the token's pair: 1 or 0.
+#[tactic(auto, unfolding(crate::specs::Calls::is_revoked_out, steps::specs::Enter::on_world))]
+pub fn is_revoked(mem: &[u64], token: CapabilityToken) -> Result<Done, Refused>
+    ensures { told result ≡ is_revoked_out mem.now token.0 }
 {
-    match enter_world(mem) {
-        Entered::Refused(answer) => refusal(answer),
-        Entered::Good(d) => {
-            if has_pair(mem, d, token.0 % 0x100_0000_0000_0000) {
-                return done(1);
-            }
-            done(0)
-        }
-    }
+    let d = enter_world(mem)?;
+    let logged = has_pair(mem, d, token.0 % 0x100_0000_0000_0000);
+    Ok(Done::with(logged as u64))
 }
 
-pub fn epoch(mem: &[u64]) -> Reply
-    ensures { result ≡ epoch_out mem.now }
+/// The log's epoch: how often a revocation was logged.
+#[tactic(auto, unfolding(crate::specs::Calls::epoch_out, steps::specs::Enter::on_world))]
+pub fn epoch(mem: &[u64]) -> Result<Done, Refused>
+    ensures { told result ≡ epoch_out mem.now }
 {
-    match enter_world(mem) {
-        Entered::Refused(answer) => refusal(answer),
-        Entered::Good(_) => done(mem[EPOCH]),
-    }
+    enter_world(mem)?;
+    Ok(Done::with(mem[EPOCH]))
 }
 
 // The ids under place r, breadth first, to the front of the area.
-fn list_under(mem: &[u64], d: Numbers, r: usize, area: &mut [u64]) -> Reply
+#[tactic(auto, unfolding(steps::specs::Replies::into_area, base::specs::Choose::when))]
+fn list_under(mem: &[u64], d: Numbers, r: usize, area: &mut [u64]) -> Result<Done, Refused>
     requires { SoundAt d mem.now × (r < registered_of mem.now) }
-    ensures { record { reply = result; area = area.new }
+    ensures { record { reply = told result; area = area.new }
         ≡ into_area (descendants d mem.now r) area.old }
 {
     let mut order = [0u16; 4096];
     let count = descend(mem, d, r, &mut order);
     if area.len() < count - 1 {
-        return refusal(Answer::BadField);
+        Err(Refusal::BadField)?;
     }
     ids_at(mem, d, &order[1..count], area);
-    done((count - 1) as u64)
+    Ok(Done::with((count - 1) as u64))
 }
 
-// All descendants of an id, breadth first, to the front of the area; the value is how many.
-pub fn get_derivation_tree(mem: &[u64], id: u64, area: &mut [u64]) -> Reply
-    ensures { record { reply = result; area = area.new } ≡ descendants_out mem.now id area.old }
+/// All descendants of an id, breadth first, to the front of the area; the value is how many. 21 for an id of more than 48 bits, or an area
+/// that is too short for them.
+#[tactic(auto, unfolding(crate::specs::Calls::descendants_out, steps::specs::Enter::on_world, base::specs::Choose::when))]
+pub fn get_derivation_tree(mem: &[u64], id: u64, area: &mut [u64]) -> Result<Done, Refused>
+    ensures { record { reply = told result; area = area.new } ≡ descendants_out mem.now id area.old }
 {
-    match enter_world(mem) {
-        Entered::Refused(answer) => refusal(answer),
-        Entered::Good(d) => {
-            if 0x1_0000_0000_0000 <= id {
-                return refusal(Answer::BadField);
-            }
-            let r = place_of(mem, d, id);
-            if r < mem[REGISTERED] as usize {
-                return list_under(mem, d, r, area);
-            }
-            done(0)
-        }
+    let d = enter_world(mem)?;
+    if 0x1_0000_0000_0000 <= id {
+        Err(Refusal::BadField)?;
     }
+    let r = place_of(mem, d, id);
+    if r < mem[REGISTERED] as usize {
+        return list_under(mem, d, r, area);
+    }
+    Ok(Done::with(0))
 }
 
-// Writes the name of a reason, by its number, to the front of the area; the value is its length.
-pub fn write_reason(reason: u8, area: &mut [u8]) -> Reply
-    ensures { record { reply = result; area = area.new } ≡ reason_out «reason» area.old }
+/// Writes the name of a reason, by its number, to the front of the area; the value is its length in bytes. 21 for a number of no reason, or
+/// an area that is too short for the name.
+pub fn write_reason(reason: u8, area: &mut [u8]) -> Result<Done, Refused>
+    ensures { record { reply = told result; area = area.new } ≡ reason_out «reason» area.old }
 {
     if 3 < reason {
-        return refusal(Answer::BadField);
+        Err(Refusal::BadField)?;
     }
     let name = reason_of(reason);
     if area.len() < name.name_length() {
-        return refusal(Answer::BadField);
+        Err(Refusal::BadField)?;
     }
-    done(revocation::write_reason(name, area) as u64)
+    Ok(Done::with(revocation::write_reason(name, area) as u64))
 }

@@ -3,8 +3,7 @@ use Rattle.std.specs.Prelude.{Bool, true, List, [], ◌∷◌, ℕ, ◌-◌, ◌
 use Rattle.answers.specs.Number.{number_of}
 use Rattle.base.specs.Choose.{both}
 use Rattle.manager_calls.specs.Calls.{create_out}
-use Rattle.steps.specs.Replies.{Left}
-use Rattle.steps.specs.declared.Reply.{Reply}
+use Rattle.steps.specs.Replies.{Left, Reply}
 use Rattle.world.specs.Open.{opening}
 use Rattle.world.specs.Regions.{length_for}
 use Rattle.world.specs.declared.Numbers.{Numbers}

@@ -1,24 +1,20 @@
 -- The calls that change a space: what each answers and leaves, on every memory and every argument. Document 01's order of refusals: 26,
 -- 20, 21, then the source's.
-use Rattle.std.specs.Prelude.{not, List, ℕ, ltb, Option}
-use Rattle.answers.specs.declared.Answer.TheVariants.{Done, IdExhausted, SpaceIds, BadSpace}
+use Rattle.std.specs.Prelude.{not, List, ℕ, ltb, Option, Some, None, Result, Ok, Err}
+use Rattle.answers.specs.Answer.{Done, Refuses, IdExhausted, SpaceIds, BadSpace}
+use Rattle.answers.specs.declared.Refusal.{Refusal}
 use Rattle.base.specs.Choose.{when}
 use Rattle.space.specs.Change.{insert_out}
 use Rattle.space.specs.Lookup.{looked_up}
 use Rattle.space.specs.Words.{generation_of}
 use Rattle.steps.specs.Enter.{on_world, on_space}
 use Rattle.steps.specs.Steps.{space_of, new_entry, next_step, insert_step, insert_reply, remove_step, clear_step, copy_step, copied_of, taken_id, take_step}
-use Rattle.steps.specs.declared.Taken.{Taken}
-use Rattle.steps.specs.declared.Taken.TheVariants.{Id, Exhausted}
 use Rattle.table.specs.declared.CapabilityEntry.{CapabilityEntry}
 use Rattle.token.specs.Token.{made}
 use Rattle.token.specs.declared.capability.CapabilityToken.{CapabilityToken}
-use Rattle.answers.specs.declared.Refusal.{Refusal}
-use Rattle.std.specs.Prelude.{Result, Ok, Err}
 use Rattle.world.specs.declared.Numbers.{Numbers}
-use Rattle.steps.specs.Replies.{Left, replied, done, refusal, refuse}
+use Rattle.steps.specs.Replies.{Left, replied, done, refusal, refuse, Reply}
 use Rattle.space_reads.specs.Replies.{found_reply}
-use Rattle.steps.specs.declared.Reply.{Reply}
 
 -- ---- entries
 
@@ -65,9 +61,9 @@ copy_out mem target source =
 -- ---- ids
 
 -- `alloc_cap_id`: 9 where no id is left.
-abbrev pub taken_reply : Taken → Reply
-taken_reply (Id id) = done id
-taken_reply Exhausted = refusal IdExhausted
+abbrev pub taken_reply : Option ℕ → Reply
+taken_reply (Some id) = done id
+taken_reply None = refusal IdExhausted
 
 unfoldable pub alloc_out : List ℕ → Left Reply
 alloc_out mem = on_world (refuse mem) mem (λ d. record { reply = taken_reply (taken_id d mem); memory = take_step d mem })
@@ -76,11 +72,11 @@ alloc_out mem = on_world (refuse mem) mem (λ d. record { reply = taken_reply (t
 -- The value is the id, which is lost if the insert is refused.
 abbrev pub create_made : Numbers → ℕ → ℕ → ℕ → ℕ → List ℕ → Result CapabilityToken Refusal → Left Reply
 create_made d s rights object id mem (Ok t) = inserting d s (new_entry t.0 object rights) id mem
-create_made d s rights object id mem (Err a) = refuse mem SpaceIds
+create_made d s rights object id mem (Err refusal) = refuse mem SpaceIds
 
-abbrev pub create_taken : Numbers → ℕ → ℕ → ℕ → List ℕ → Taken → Left Reply
-create_taken d s rights object mem (Id id) = create_made d s rights object id mem (made id (generation_of (space_of d s mem)) 0 0)
-create_taken d s rights object mem Exhausted = refuse mem SpaceIds
+abbrev pub create_taken : Numbers → ℕ → ℕ → ℕ → List ℕ → Option ℕ → Left Reply
+create_taken d s rights object mem (Some id) = create_made d s rights object id mem (made id (generation_of (space_of d s mem)) 0 0)
+create_taken d s rights object mem None = refuse mem SpaceIds
 
 unfoldable pub create_out : List ℕ → ℕ → ℕ → ℕ → Left Reply
 create_out mem s rights object =
@@ -91,7 +87,7 @@ abbrev pub revoke_made : Numbers → ℕ → List ℕ → Result CapabilityToken
 revoke_made d s mem (Ok t) =
     let l = looked_up (space_of d s mem) t.0 in
     record { reply = gone_reply l.got l.visits; memory = remove_step d s t.0 mem }
-revoke_made d s mem (Err a) = refuse mem (Refuses a)
+revoke_made d s mem (Err refusal) = refuse mem (Refuses refusal)
 
 unfoldable pub revoke_out : List ℕ → ℕ → ℕ → Left Reply
 revoke_out mem s id = on_space (refuse mem) mem s (λ d. revoke_made d s mem (made id (generation_of (space_of d s mem)) 0 0))

@@ -1,21 +1,17 @@
 -- The calls that read a space: what each answers and leaves, on every memory and every argument. Document 01's order of refusals: 26, 20,
 -- 21, then the source's.
 use Rattle.std.specs.Prelude.{List, ℕ, ◌^◌, leb}
-use Rattle.answers.specs.declared.Answer.TheVariants.{Done, BadField}
+use Rattle.answers.specs.Answer.{Done, BadField}
 use Rattle.base.specs.Choose.{when}
 use Rattle.space.specs.Lookup.{looked_up, got_entry}
 use Rattle.space.specs.Words.{table_of, slot_words}
 use Rattle.steps.specs.Enter.{on_space}
-use Rattle.steps.specs.Replies.{Left, replied, refuse}
+use Rattle.steps.specs.Replies.{Left, replied, refuse, Reply}
 use Rattle.steps.specs.Steps.{space_of, facts_of, lookup_step}
 use Rattle.steps.specs.declared.Facts.{Facts}
-use Rattle.steps.specs.declared.Reply.{Reply}
 use Rattle.table.specs.Copy.{nth_of}
 use Rattle.table.specs.Insert.{live_entries}
-use Rattle.space_reads.specs.Replies.{rights_reply, held_reply, no_entry, entry_reply, nth_reply, no_facts}
-use Rattle.space_reads.specs.declared.EntryReply.{EntryReply}
-use Rattle.space_reads.specs.declared.FactsReply.{FactsReply}
-use Rattle.space_reads.specs.declared.StatsReply.{StatsReply}
+use Rattle.space_reads.specs.Replies.{rights_reply, held_reply, no_entry, entry_reply, nth_reply, no_facts, EntryReply, FactsReply, StatsReply}
 
 -- ---- what a space says of itself
 

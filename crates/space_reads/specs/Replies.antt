@@ -1,15 +1,39 @@
 -- What a call answers for what a step found: document 01's answer, the values, and the added counts. A refusal's values are 0;
 -- a search's visits are answered whether it found the entry or not.
-use Rattle.std.specs.Prelude.{ℕ, Option, None, Some}
-use Rattle.answers.specs.declared.Answer.{Answer}
-use Rattle.answers.specs.declared.Answer.TheVariants.{Done, NotFound}
+use Rattle.std.specs.Prelude.{ℕ, Option, None, Some, Result, Ok, Err}
+use Rattle.answers.specs.Answer.{Answer, Done, Refuses, NotFound}
+use Rattle.answers.specs.declared.Refusal.{Refusal}
 use Rattle.base.specs.Below.{one}
 use Rattle.table.specs.declared.CapabilityEntry.{CapabilityEntry}
 use Rattle.token.specs.Rights.{holds}
-use Rattle.steps.specs.Replies.{replied}
-use Rattle.steps.specs.declared.Reply.{Reply}
-use Rattle.space_reads.specs.declared.EntryReply.{EntryReply}
-use Rattle.space_reads.specs.declared.FactsReply.{FactsReply}
+use Rattle.token.specs.declared.capability.CapabilityToken.{CapabilityToken}
+use Rattle.token.specs.declared.rights.Rights.{Rights}
+use Rattle.steps.specs.Replies.{replied, Reply}
+use Rattle.steps.specs.declared.Facts.{Facts}
+use Rattle.steps.specs.declared.replies.Refused.{Refused}
+use Rattle.space_reads.specs.declared.FoundEntry.{FoundEntry}
+use Rattle.space_reads.specs.declared.Stats.{Stats}
+
+-- An entry for an answer, zeros on a refusal, and the slots that its search visited.
+pub record EntryReply : Type 0 where
+  pub answer : Answer
+  pub token : CapabilityToken
+  pub object : ℕ
+  pub rights : Rights
+  pub uses : ℕ
+  pub visits : ℕ
+
+-- All that a space says of itself, zeros on a refusal; calls answer parts of it.
+pub record FactsReply : Type 0 where
+  pub answer : Answer
+  pub facts : Facts
+
+-- The statistics of a space, zeros on a refusal.
+pub record StatsReply : Type 0 where
+  pub answer : Answer
+  pub hits : ℕ
+  pub misses : ℕ
+  pub total_caps : ℕ
 
 -- ---- an entry that was looked for
 
@@ -50,3 +74,17 @@ nth_reply None = no_entry NotFound 0
 abbrev pub no_facts : Answer → FactsReply
 no_facts answer =
     record { answer = answer; facts = record { quota = 0; generation = 0; hits = 0; misses = 0; slots = 0; used = 0 } }
+
+-- ---- what the code's outcomes tell
+
+abbrev pub told_entry : Result FoundEntry Refused → EntryReply
+told_entry (Ok found) = whole_entry found.entry found.visits
+told_entry (Err r) = no_entry (Refuses r.refusal) r.count
+
+abbrev pub told_facts : Result Facts Refusal → FactsReply
+told_facts (Ok facts) = record { answer = Done; facts = facts }
+told_facts (Err refusal) = no_facts (Refuses refusal)
+
+abbrev pub told_stats : Result Stats Refusal → StatsReply
+told_stats (Ok stats) = record { answer = Done; hits = stats.hits; misses = stats.misses; total_caps = stats.total_caps }
+told_stats (Err refusal) = record { answer = Refuses refusal; hits = 0; misses = 0; total_caps = 0 }

@@ -1,22 +1,25 @@
 // One space of the world, lent to the functions of a space; where entries come or go, their holders counted; and the count of its strays.
 ghost use Rattle.std.specs.Prelude.{◌≡◌, ◌<◌, ◌≤◌, length, take};
 ghost use Rattle.registry.specs.Children as derivation;
-ghost use Rattle.space.specs.Change.{insert_out, removed_token, cleared};
+ghost use Rattle.space.specs.Change.{answered, insert_out, removed_token, cleared};
 ghost use Rattle.space.specs.Lookup.{looked_up, got_entry};
 ghost use Rattle.space.specs.Words.{table_of, slot_words};
 ghost use Rattle.table.specs.Copy.{nth_of};
 ghost use Rattle.table.specs.Insert.{live_entries};
 ghost use Rattle.steps.specs.Ready.{Ready};
+ghost use Rattle.steps.specs.Replies.{told};
 ghost use Rattle.space.specs.Copy.{copied_table, copied_space};
 ghost use Rattle.space.specs.Ids.{entry_ids};
 ghost use Rattle.world.specs.Numbers.{registered_of};
 ghost use Rattle.world.specs.Regions.{space, registry, view, on_region};
 ghost use Rattle.steps.specs.Steps.{space_of, facts_of, lookup_step, next_step, new_entry, insert_step, insert_reply, remove_step, clear_step, copy_step, copied_of};
 
-use space::{Insertion, LookedUp};
+use answers::Refusal;
+use space::LookedUp;
 use steps::holders::{hold, hold_all, release, release_all};
 use steps::replies::replied;
 use steps::{Copied, Facts, Reply};
+use steps::{Copied, Done, Facts, Refused};
 use table::CapabilityEntry;
 use token::{CapabilityToken, Rights};
 use world::Numbers;
@@ -78,20 +81,19 @@ pub fn next_generation(mem: &mut [u64], d: Numbers, s: usize)
     space::next_generation(&mut mem[start..end]);
 }
 
-// The entry into the space.
-fn insert_entry(mem: &mut [u64], d: Numbers, s: usize, entry: CapabilityEntry) -> Insertion
+// The entry into the space; the answer is how many its rebuild moved.
+fn insert_entry(mem: &mut [u64], d: Numbers, s: usize, entry: CapabilityEntry) -> Result<usize, Refusal>
     requires { Ready d mem.old × (s < d.spaces) }
     ensures mem_after { mem.new ≡ on_region d (space s) (λ sp. (insert_out sp entry).words) mem.old }
-    ensures answer_value { (result.answer ≡ (insert_out (space_of d s mem.old) entry).answer)
-        × (result.moved ≡ (insert_out (space_of d s mem.old) entry).moved) }
+    ensures value { answered result (insert_out (space_of d s mem.old) entry).words ≡ insert_out (space_of d s mem.old) entry }
 {
     let start = space_at(d, s);
     let end = start + width(d);
     space::insert(&mut mem[start..end], entry)
 }
 
-// A new entry. If it is accepted its holder is counted, and the value answered.
-#[tactic(auto, using(steps::proofs::ChangingEntries::insert_accepted, steps::proofs::ChangingEntries::insert_refused, steps::proofs::ChangingEntries::refused_reply))]
+/// A new entry. If it is accepted its holder is counted, and the value answered; the count is how many entries its rebuild moved.
+#[tactic(auto, using(steps::proofs::ChangingEntries::inserting))]
 pub fn insert(
     mem: &mut [u64],
     d: Numbers,
@@ -100,10 +102,10 @@ pub fn insert(
     object: u64,
     rights: Rights,
     value: u64,
-) -> Reply
+) -> Result<Done, Refused>
     requires { Ready d mem.old × (s < d.spaces) }
     ensures mem_after { mem.new ≡ insert_step d s (new_entry token.0 object rights.0) mem.old }
-    ensures value { result ≡ insert_reply value (insert_out (space_of d s mem.old) (new_entry token.0 object rights.0)) }
+    ensures value { told result ≡ insert_reply value (insert_out (space_of d s mem.old) (new_entry token.0 object rights.0)) }
 {
     let n = mem[REGISTERED] as usize;
     let entry = CapabilityEntry {
@@ -112,13 +114,9 @@ pub fn insert(
         rights,
         uses: 0,
     };
-    let r = insert_entry(mem, d, s, entry);
-    let answer = r.answer;
-    if answer.number() == 0 {
-        hold(mem, d, n, token.id());
-        return replied(answer, value, r.moved);
-    }
-    replied(answer, 0, r.moved)
+    let count = insert_entry(mem, d, s, entry)?;
+    hold(mem, d, n, token.id());
+    Ok(Done { value, count })
 }
 
 // The entry of exactly the token out of the space.
@@ -140,14 +138,10 @@ pub fn remove(mem: &mut [u64], d: Numbers, s: usize, token: CapabilityToken) -> 
 {
     let n = mem[REGISTERED] as usize;
     let r = remove_entry(mem, d, s, token);
-    let got = r.got;
-    match got {
-        Some(_) => {
-            release(mem, d, n, token.id());
-            r
-        }
-        None => r,
+    if r.got.is_some() {
+        release(mem, d, n, token.id());
     }
+    r
 }
 
 // The ids of the entries of space s, to the front of `ids`.

@@ -1,7 +1,7 @@
 -- Entries come and go, and their holders are counted: the ways through the steps of `space_steps` that do it.
 use Rattle.std.proofs.Common.{◌≡◌, ℕ, true, false, eqb, ◌≢◌, List, length, sym, refl, ap, ◌∙◌, eq-eqb, ne_eqb, Option}
 use Rattle.answers.specs.Number.{number_of}
-use Rattle.answers.specs.declared.Answer.{Answer}
+use Rattle.answers.specs.Answer.{Answer}
 use Rattle.base.specs.Part.{on_part_same}
 use Rattle.space.specs.Change.{insert_out, removed_token, cleared}
 use Rattle.space.specs.Copy.{copied_space}

@@ -1,7 +1,6 @@
 -- A call's answer and the memory, or the lent area, that it leaves, as one: equal by their two parts.
 use Rattle.std.proofs.Common.{◌≡◌, ℕ, List, sym, ◌∙◌, ap₂}
-use Rattle.steps.specs.Replies.{Left, WithArea}
-use Rattle.steps.specs.declared.Reply.{Reply}
+use Rattle.steps.specs.Replies.{Left, WithArea, Reply}
 
 pub left_both :
     {A : Type 0} (r r' : A) (m m' : List ℕ) → r ≡ r' → m ≡ m'

@@ -18,12 +18,9 @@ use Rattle.world.specs.Numbers.{next_word, registered_word, recycled_word, next_
 use Rattle.world.specs.Regions.{space, registry, view, on_region}
 use Rattle.world.specs.Sound.{links, recycled}
 use Rattle.world.specs.declared.Numbers.{Numbers}
-use Rattle.steps.specs.Replies.{replied}
+use Rattle.steps.specs.Replies.{replied, Reply}
 use Rattle.steps.specs.declared.Copied.{Copied}
 use Rattle.steps.specs.declared.Facts.{Facts}
-use Rattle.steps.specs.declared.Reply.{Reply}
-use Rattle.steps.specs.declared.Taken.{Taken}
-use Rattle.steps.specs.declared.Taken.TheVariants.{Id, Exhausted}
 
 -- ---- one space
 
@@ -105,9 +102,9 @@ copied_of d target source mem =
 
 -- ---- ids: smallest recycled first, else next; none where next is 2^48
 
-unfoldable pub taken_id : Numbers → List ℕ → Taken
+unfoldable pub taken_id : Numbers → List ℕ → Option ℕ
 taken_id d mem =
-    pick (nat_lt 0 (recycled_of mem)) (Id (recycled d mem 0)) (pick (nat_lt (next_of mem) (2 ^ 48)) (Id (next_of mem)) Exhausted)
+    pick (nat_lt 0 (recycled_of mem)) (Some (recycled d mem 0)) (pick (nat_lt (next_of mem) (2 ^ 48)) (Some (next_of mem)) None)
 
 unfoldable pub take_step : Numbers → List ℕ → List ℕ
 take_step d mem =

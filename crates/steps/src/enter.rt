@@ -1,33 +1,35 @@
 // What every call does first: the look over the memory, then the test of a space number.
-ghost use Rattle.std.specs.Prelude.{◌≡◌};
+ghost use Rattle.std.specs.Prelude.{◌≡◌, ◌<◌, IfOk};
+ghost use Rattle.world.specs.Sound.{SoundAt};
 ghost use Rattle.steps.specs.Enter.{entered_world, entered_space};
+ghost use Rattle.steps.specs.Ready.{Ready};
 
-use super::Entered;
-use answers::Answer;
+use answers::Refusal;
+use world::Numbers;
 use world::head::numbers;
 use world_look::is_sound;
 
-// 26 on memory that is not sound.
-pub fn enter_world(mem: &[u64]) -> Entered
-    ensures { result ≡ entered_world mem.now }
+/// The numbers of a sound memory; 26 on one that is not sound.
+#[tactic(auto, using(crate::proofs::Entering::entering), unfolding(crate::specs::Enter::entered_world, base::specs::Choose::when))]
+pub fn enter_world(mem: &[u64]) -> Result<Numbers, Refusal>
+    ensures value { result ≡ entered_world mem.now }
+    ensures inside { IfOk result (λ d. SoundAt d mem.now × Ready d mem.now) }
 {
     if !is_sound(mem) {
-        return Entered::Refused(Answer::BadWorld);
+        return Err(Refusal::BadWorld);
     }
-    Entered::Good(numbers(mem))
+    Ok(numbers(mem))
 }
 
-// 26, then 20 for a space number of S or more.
-pub fn enter_space(mem: &[u64], s: usize) -> Entered
-    ensures { result ≡ entered_space mem.now s }
+/// The same for a call on a space: 26, then 20 for a space number of S or more.
+#[tactic(auto, unfolding(crate::specs::Enter::entered_space, base::specs::Choose::when))]
+pub fn enter_space(mem: &[u64], s: usize) -> Result<Numbers, Refusal>
+    ensures value { result ≡ entered_space mem.now s }
+    ensures inside { IfOk result (λ d. SoundAt d mem.now × Ready d mem.now × (s < d.spaces)) }
 {
-    match enter_world(mem) {
-        Entered::Refused(answer) => Entered::Refused(answer),
-        Entered::Good(d) => {
-            if d.spaces <= s {
-                return Entered::Refused(Answer::BadSpace);
-            }
-            Entered::Good(d)
-        }
+    let d = enter_world(mem)?;
+    if d.spaces <= s {
+        return Err(Refusal::BadSpace);
     }
+    Ok(d)
 }

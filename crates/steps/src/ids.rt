@@ -3,13 +3,12 @@ ghost use Rattle.std.specs.Prelude.{◌≡◌};
 ghost use Rattle.steps.specs.Ready.{Ready};
 ghost use Rattle.steps.specs.Steps.{taken_id, take_step};
 
-use super::Taken;
 use world::Numbers;
 use world::head::{NEXT, RECYCLED};
 use world::regions::registry_at;
 
 #[tactic(auto, using(crate::proofs::laws::Taking::take_laws))]
-pub fn take_id(mem: &mut [u64], d: Numbers) -> Taken
+pub fn take_id(mem: &mut [u64], d: Numbers) -> Option<u64>
     requires { Ready d mem.old }
     ensures mem_after { mem.new ≡ take_step d mem.old }
     ensures value { result ≡ taken_id d mem.old }
@@ -20,12 +19,12 @@ pub fn take_id(mem: &mut [u64], d: Numbers) -> Taken
         let end = start + 5 * d.places + 1;
         let id = registry::ids::take_first(&mut mem[start..end], d.places, recycled);
         mem[RECYCLED] = (recycled - 1) as u64;
-        return Taken::Id(id);
+        return Some(id);
     }
     let next = mem[NEXT];
     if next < 0x1_0000_0000_0000 {
         mem[NEXT] = next + 1;
-        return Taken::Id(next);
+        return Some(next);
     }
-    Taken::Exhausted
+    None
 }

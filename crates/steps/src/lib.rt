@@ -10,25 +10,10 @@ pub mod ids;
 pub mod registered;
 pub mod replies;
 
-use answers::Answer;
-use world::Numbers;
-
-// What a call sees first: a refusal, or the numbers of a sound memory.
-#[derive(Clone, Copy)]
-pub enum Entered {
-    Refused(Answer),
-    Good(Numbers),
-}
-
-// An id taken, if there was one left.
-#[derive(Clone, Copy)]
-pub enum Taken {
-    Id(u64),
-    Exhausted,
-}
+pub use replies::{Done, Refused};
 
 // The numbers of one space.
-#[derive(Clone, Copy)]
+#[derive(Clone, Copy, PartialEq, Eq, Debug)]
 pub struct Facts {
     pub quota: usize,
     pub generation: u8,
@@ -39,16 +24,8 @@ pub struct Facts {
 }
 
 // What a copy answers: the entries that its rebuilds moved and those that the target accepted.
-#[derive(Clone, Copy)]
+#[derive(Clone, Copy, PartialEq, Eq, Debug)]
 pub struct Copied {
     pub moved: usize,
     pub accepted: usize,
-}
-
-// What a call answers: its answer, a value, 0 on a refusal, and the slots that its search visited or the entries that it moved.
-#[derive(Clone, Copy)]
-pub struct Reply {
-    pub answer: Answer,
-    pub value: u64,
-    pub count: usize,
 }

@@ -165,5 +165,5 @@ pub fn add(mem: &mut [u64], i: usize, k: usize)
     requires { (i < 16) × (16 ≤ length mem.old) }
     ensures { mem.new ≡ add_step i k mem.old }
 {
-    mem[i] = std::num::wrapping_add_u64(mem[i], k as u64);
+    mem[i] = mem[i].wrapping_add(k as u64);
 }

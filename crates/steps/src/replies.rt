@@ -1,36 +1,50 @@
-// The answers that all calls share.
+// What every call answers: that it is done, with a value and a count, or why it refuses.
 ghost use Rattle.std.specs.Prelude.{◌≡◌};
-ghost use Rattle.steps.specs.Replies as spec;
 
-use super::Reply;
-use answers::Answer;
+use answers::Refusal;
 
-pub fn replied(answer: Answer, value: u64, count: usize) -> Reply
-    ensures { result ≡ spec.replied answer value count }
-{
-    Reply {
-        answer,
-        value,
-        count,
+/// What a call that is done answers: a value, and the slots that its search visited or the entries that it moved.
+#[derive(Clone, Copy, PartialEq, Eq, Debug)]
+pub struct Done {
+    pub value: u64,
+    pub count: usize,
+}
+
+/// Why a call refuses, and the slots that its search visited before.
+#[derive(Clone, Copy, PartialEq, Eq, Debug)]
+pub struct Refused {
+    pub refusal: Refusal,
+    pub count: usize,
+}
+
+impl Done {
+    /// A value alone: nothing was visited or moved.
+    pub fn with(value: u64) -> Done
+        ensures { result ≡ record { value = value; count = 0 } }
+    {
+        Done { value, count: 0 }
     }
 }
 
-pub fn refusal(answer: Answer) -> Reply
-    ensures { result ≡ spec.refusal answer }
-{
-    Reply {
-        answer,
-        value: 0,
-        count: 0,
+impl Refused {
+    /// A refusal after a search.
+    pub fn after(refusal: Refusal, visits: usize) -> Refused
+        ensures { result ≡ record { refusal = refusal; count = visits } }
+    {
+        Refused {
+            refusal,
+            count: visits,
+        }
     }
 }
 
-pub fn done(value: u64) -> Reply
-    ensures { result ≡ spec.done value }
-{
-    Reply {
-        answer: Answer::Done,
-        value,
-        count: 0,
+/// A refusal that comes before any search.
+impl From<Refusal> for Refused {
+    ghost use Rattle.steps.specs.Replies.{Unvisited};
+
+    ghost from_gives = { Unvisited };
+
+    fn from(refusal: Refusal) -> Self {
+        Refused { refusal, count: 0 }
     }
 }

@@ -46,8 +46,10 @@ fn print_lines(records: &[u8], end: usize, mem: &mut [u64], unprinted: usize) {
         return;
     }
     let mut lines = [0u8; 57372];
-    let reply = request_run::run(&records[..end], mem, &mut lines);
-    let written = reply.value as usize;
+    let written = match request_run::run(&records[..end], mem, &mut lines) {
+        Ok(done) => done.value as usize,
+        Err(_) => 0,
+    };
     if unprinted <= written {
         io::write_all(STDOUT_FILENO, &lines[unprinted..written]);
     }

@@ -6,7 +6,7 @@ use Rattle.std.proofs.Math.Decide.{dec_lt}
 use Rattle.std.proofs.Math.Logic.{by_cases}
 use Rattle.std.proofs.lemmas.Bool.{lt-leb}
 use Rattle.answers.specs.Number.{number_of}
-use Rattle.answers.specs.declared.Answer.TheVariants.{Done, BadField, BadWorld}
+use Rattle.answers.specs.Answer.{Done, BadField, BadWorld}
 use Rattle.base.specs.Choose.{when_yes, when_no}
 use Rattle.world.specs.Open.{OpenOut, Good, record_test, opened, opening, good, good_test}
 use Rattle.world.specs.Regions.{length_for}

@@ -2,8 +2,7 @@
 -- writes the head, the first eight words of each space and the length of each queue; every other word stays as it was.
 use Rattle.std.specs.Prelude.{Bool, List, [], ◌∷◌, ◌++◌, ◌≡◌, ℕ, ◌≤◌, ◌<◌, eqb, leb, get_or, drop, set, true, not, length}
 use Rattle.std.proofs.Common.{arith, leb-true, le-leb, eqb-true, eq-eqb}
-use Rattle.answers.specs.declared.Answer.{Answer}
-use Rattle.answers.specs.declared.Answer.TheVariants.{Done, BadField, BadWorld}
+use Rattle.answers.specs.Answer.{Answer, Done, BadField, BadWorld}
 use Rattle.base.specs.AllLaws.{all_at, all_make}
 use Rattle.base.specs.Below.{all}
 use Rattle.base.specs.Choose.{both, both_left, both_right, both_make, when}

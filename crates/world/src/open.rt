@@ -1,5 +1,6 @@
-// Opening a world: document 01's tests of the numbers, the quotas and the length, and the words of an empty world.
+// Opening a world: the tests of the numbers, the quotas and the length, and the words of an empty world.
 ghost use Rattle.std.specs.Prelude.{◌≡◌, ◌≤◌, ◌<◌, leb, length, get_or};
+ghost use Rattle.answers.specs.Answer.{answer_of};
 ghost use Rattle.base.specs.Below.{all};
 ghost use Rattle.base.specs.Written.{written};
 ghost use Rattle.world.specs.Numbers.{InRange};
@@ -9,7 +10,7 @@ ghost use Rattle.world.specs.Regions.{head, space, length_for, on_region};
 use crate::Numbers;
 use crate::head::{NEXT, in_range};
 use crate::regions::{length_for, queue_at, space_at, width};
-use answers::Answer;
+use answers::Refusal;
 use revocation::queues::LENGTH;
 
 // Writes the words at the front of the slice.
@@ -114,15 +115,15 @@ fn write_world(mem: &mut [u64], d: Numbers, quotas: &[u64])
 }
 
 // Empties the memory for a world of these numbers, with each space's quota.
-pub fn open(mem: &mut [u64], d: Numbers, quotas: &[u64]) -> Answer
-    ensures { record { answer = result; memory = mem.new } ≡ opening d quotas.now mem.old }
+pub fn open(mem: &mut [u64], d: Numbers, quotas: &[u64]) -> Result<(), Refusal>
+    ensures { record { answer = answer_of result; memory = mem.new } ≡ opening d quotas.now mem.old }
 {
     if !good_record(d, quotas) {
-        return Answer::BadField;
+        return Err(Refusal::BadField);
     }
     if mem.len() < length_for(d) {
-        return Answer::BadWorld;
+        return Err(Refusal::BadWorld);
     }
     write_world(mem, d, quotas);
-    Answer::Done
+    Ok(())
 }

@@ -1,7 +1,6 @@
 -- On a sound memory no call but an opening is given 26.
 use Rattle.std.proofs.Common.{false, true≢false, List, ◌↔◌, ◌≢◌, ◌≡◌, ℕ}
-use Rattle.answers.specs.declared.Answer.{Answer}
-use Rattle.answers.specs.declared.Answer.TheVariants.{BadWorld}
+use Rattle.answers.specs.Answer.{Answer, BadWorld}
 use Rattle.steps.proofs.laws.Told.{Told}
 use Rattle.space_laws.proofs.laws.Refused as space
 use Rattle.manager_laws.proofs.laws.CreateTold.{create_entered}

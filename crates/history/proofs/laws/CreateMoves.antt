@@ -9,9 +9,8 @@ use Rattle.manager_laws.proofs.laws.StepsKept.{registered_kept}
 use Rattle.manager_laws.proofs.laws.Unchanged.{create_undone}
 use Rattle.space.specs.Change.{insert_out}
 use Rattle.space.proofs.laws.Insert.{Accepts}
-use Rattle.steps.specs.Replies.{Left}
+use Rattle.steps.specs.Replies.{Left, Reply}
 use Rattle.steps.specs.Steps.{space_of, insert_step, recycle_step, add_step}
-use Rattle.steps.specs.declared.Reply.{Reply}
 use Rattle.steps.proofs.laws.Ready.{ready_at}
 use Rattle.steps.proofs.laws.ReadyKept.{take_room}
 use Rattle.steps.proofs.laws.RegistrySteps.{register_step_changes, recycle_step_changes, add_step_changes}

@@ -11,9 +11,8 @@ use Rattle.manager_laws.proofs.laws.Recording.{with_list, recording}
 use Rattle.manager_laws.proofs.laws.Roomed.{parent_in, roomed, roomed_by_cases}
 use Rattle.manager_laws.proofs.laws.StepsKept.{parent_registered, registered_kept}
 use Rattle.space.proofs.laws.Insert.{Accepts}
-use Rattle.steps.specs.Replies.{Left}
+use Rattle.steps.specs.Replies.{Left, Reply}
 use Rattle.steps.specs.Steps.{space_of, lookup_step, insert_step, take_step, objects, add_step}
-use Rattle.steps.specs.declared.Reply.{Reply}
 use Rattle.steps.proofs.laws.OnlyIds.{take_only_ids}
 use Rattle.steps.proofs.laws.OnlySpace.{lookup_in_space, insert_in_space}
 use Rattle.steps.proofs.laws.Ready.{ready_at}

@@ -1,7 +1,7 @@
 -- An id that was issued and not given back is never issued again: through any calls it stays so, until it is deleted itself or the memory
 -- is opened anew; and each call that issues an id issues none such (`create_new`, `delegate_new`, `alloc_new`, `space_create_new`).
 use Rattle.std.proofs.Common.{false, List, [], ◌∷◌, ◌≢◌, ◌⊎◌, ◌≡◌, refl, sym, subst, ℕ}
-use Rattle.answers.specs.declared.Answer.TheVariants.{Done}
+use Rattle.answers.specs.Answer.{Done}
 use Rattle.manager_calls.specs.Calls.{delete_out}
 use Rattle.manager_laws.proofs.laws.Ids as manager
 use Rattle.manager_laws.proofs.laws.Spent.{Spent, NoneFreed}

@@ -6,9 +6,8 @@ use Rattle.manager_laws.proofs.laws.StepsKept.{deleted_kept}
 use Rattle.manager_laws.proofs.laws.Ways.{delete_by_cases, check_by_cases}
 use Rattle.revocation_laws.proofs.laws.Steady as revocation
 use Rattle.revocation_laws.proofs.laws.Steady.{Steady}
-use Rattle.steps.specs.Replies.{Left}
+use Rattle.steps.specs.Replies.{Left, Reply}
 use Rattle.steps.specs.Steps.{lookup_step, place_in, unregister_step}
-use Rattle.steps.specs.declared.Reply.{Reply}
 use Rattle.steps.proofs.laws.RegistrySteps.{unregister_step_changes, unregister_step_kept, recycle_step_changes, add_step_changes}
 use Rattle.table.proofs.laws.Potential.{none_pays}
 use Rattle.token.specs.Token.{id_of}

@@ -3,7 +3,7 @@
 use Rattle.std.proofs.Common.{false, List, ◌≡◌, refl, ap, ℕ, ◌≤◌, arith, eqb, length}
 use borrow.Author.Tests.{eqb-false}
 use Rattle.answers.specs.Number.{number_of}
-use Rattle.answers.specs.declared.Answer.TheVariants.{Done}
+use Rattle.answers.specs.Answer.{Done}
 use Rattle.world.specs.Open.{OpenOut, opened, opening, good_test}
 use Rattle.world.proofs.OpenTold.{opening_by_cases, open_unchanged}
 use Rattle.world.specs.Opened.{opened_length, opened_past, opened_numbers}

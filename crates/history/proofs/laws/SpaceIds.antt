@@ -1,9 +1,8 @@
 -- Ids and the calls of a space: none gives an id back; and `alloc_cap_id` and the space-made create issue none that is issued and not
 -- given back.
-use Rattle.std.proofs.Common.{true, List, ◌≢◌, ◌≡◌, refl, sym, ap, subst, ℕ, ◌^◌, ◌<◌, arith, eqb}
+use Rattle.std.proofs.Common.{true, List, ◌≢◌, ◌≡◌, refl, sym, ap, subst, ℕ, ◌^◌, ◌<◌, arith, eqb, Option, Some, None}
 use Rattle.answers.specs.Number.{number_of}
-use Rattle.answers.specs.declared.Answer.{Answer}
-use Rattle.answers.specs.declared.Answer.TheVariants.{Done}
+use Rattle.answers.specs.Answer.{Answer, Done}
 use Rattle.base.specs.Choose.{pick}
 use Rattle.manager_laws.proofs.laws.Ids.{Unspent}
 use Rattle.manager_laws.proofs.laws.SameIds.{only_space, insert_ids}
@@ -11,11 +10,8 @@ use Rattle.manager_laws.proofs.laws.Spent.{SpentAt, Spent, NoneFreed, spent_stil
 use Rattle.space_laws.proofs.laws.Ways.{own_token, create_by_cases}
 use Rattle.space_laws.proofs.laws.Sound.{create_keeps}
 use Rattle.space_calls.specs.Calls.{taken_reply, alloc_out, create_out}
-use Rattle.steps.specs.Replies.{Left}
+use Rattle.steps.specs.Replies.{Left, Reply}
 use Rattle.steps.specs.Steps.{space_of, new_entry, insert_step, taken_id, take_step}
-use Rattle.steps.specs.declared.Reply.{Reply}
-use Rattle.steps.specs.declared.Taken.{Taken}
-use Rattle.steps.specs.declared.Taken.TheVariants.{Id, Exhausted}
 use Rattle.steps.proofs.laws.Entered.{world_by_cases}
 use Rattle.steps.proofs.laws.OnlySpace.{OnlySpace}
 use Rattle.steps.proofs.laws.TakeStep.{take_step_kept}
@@ -43,16 +39,16 @@ module _ (mem : List ℕ) where
 
   -- Given 0, it took an id.
   abbrev Took : Left Reply → Type 0
-  Took out = out.reply.answer ≡ Done → Sound mem × ((taken_id d mem ≡ Id out.reply.value) × (out.memory ≡ take_step d mem))
+  Took out = out.reply.answer ≡ Done → Sound mem × ((taken_id d mem ≡ Some out.reply.value) × (out.memory ≡ take_step d mem))
 
   alloc_took : Took (alloc_out mem)
   unfolding alloc_out
   alloc_took =
       world_by_cases Took _ mem _ (λ bad e. absurd (omega (arith, ap number_of e))) (λ sound. go sound (taken_id d mem) refl)
     where
-      go : Sound mem → (t : Taken) → taken_id d mem ≡ t → Took (record { reply = taken_reply t; memory = take_step d mem })
-      go sound (Id id) is e = (sound, (is, refl))
-      go sound Exhausted is e = absurd (omega (arith, ap number_of e))
+      go : Sound mem → (t : Option ℕ) → taken_id d mem ≡ t → Took (record { reply = taken_reply t; memory = take_step d mem })
+      go sound (Some id) is e = (sound, (is, refl))
+      go sound None is e = absurd (omega (arith, ap number_of e))
 
   pub alloc_new : (alloc_out mem).reply.answer ≡ Done → Unspent mem (alloc_out mem).reply.value
   alloc_new e = let (sound, (is, left)) = alloc_took e in λ x spent. taken_unspent d mem sound _ x is spent

@@ -1,15 +1,14 @@
 -- Every call of a space pays for the moves in space s, whatever it answers.
 use Rattle.std.proofs.Common.{List, ℕ, ◌^◌, ◌<◌}
-use Rattle.answers.specs.declared.Answer.{Answer}
+use Rattle.answers.specs.Answer.{Answer}
 use Rattle.history.specs.Counts.{given0}
 use Rattle.base.specs.Cases.{unless_below}
 use Rattle.space_calls.specs.Calls.{insert_call_out, remove_out, increment_out, clear_out, revoke_all_out, copy_out, alloc_out, create_out, revoke_made, revoke_out}
 use Rattle.space_reads.specs.Calls.{lookup_out, lookup_entry_out, check_rights_out}
 use Rattle.space_laws.proofs.laws.Ways.{made_by_cases, create_by_cases}
 use Rattle.steps.specs.Enter.{on_space}
-use Rattle.steps.specs.Replies.{Left, refuse}
+use Rattle.steps.specs.Replies.{Left, refuse, Reply}
 use Rattle.steps.specs.Steps.{space_of, new_entry}
-use Rattle.steps.specs.declared.Reply.{Reply}
 use Rattle.steps.proofs.laws.Entered.{world_by_cases, space_by_cases}
 use Rattle.steps.proofs.laws.SpaceSteps.{clear_step_kept}
 use Rattle.steps.proofs.laws.TakeStep.{take_step_kept}

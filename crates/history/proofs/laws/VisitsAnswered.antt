@@ -2,8 +2,7 @@
 -- that there is, whatever was found.
 use Rattle.std.proofs.Common.{List, ◌≡◌, refl, ap, ◌∙◌, ℕ, ◌^◌, ◌<◌, le-ltb, length, Option, None, Some}
 use Rattle.std.proofs.lemmas.Bool.{lt-leb}
-use Rattle.answers.specs.declared.Answer.{Answer}
-use Rattle.answers.specs.declared.Answer.TheVariants.{BadField}
+use Rattle.answers.specs.Answer.{Answer, BadField}
 use Rattle.base.specs.Choose.{when_no}
 use Rattle.manager_calls.specs.Calls as manager
 use Rattle.revocation_calls.specs.Calls as revocation
@@ -13,14 +12,12 @@ use Rattle.space.specs.Lookup.{looked_up, got_entry}
 use Rattle.space.specs.declared.LookedUp.{LookedUp}
 use Rattle.space_calls.specs.Calls as space
 use Rattle.space_reads.specs.Calls as space_reads
-use Rattle.space_reads.specs.Replies.{found_reply, held_reply, no_entry, entry_reply}
-use Rattle.space_reads.specs.declared.EntryReply.{EntryReply}
+use Rattle.space_reads.specs.Replies.{found_reply, held_reply, no_entry, entry_reply, EntryReply}
 use Rattle.base.specs.Cases.{either}
 use Rattle.steps.proofs.laws.Entered.{space_called}
 use Rattle.steps.specs.Enter.{on_space}
-use Rattle.steps.specs.Replies.{Left}
+use Rattle.steps.specs.Replies.{Left, Reply}
 use Rattle.steps.specs.Steps.{space_of, lookup_step}
-use Rattle.steps.specs.declared.Reply.{Reply}
 use Rattle.table.specs.declared.CapabilityEntry.{CapabilityEntry}
 use Rattle.token.specs.Token.{id_of}
 use Rattle.world.specs.Numbers.{numbers_of}

@@ -2,7 +2,7 @@
 -- accepts an entry under its quota, of an id that is not there yet (`Accepts`).
 use Rattle.std.proofs.Common.{List, ◌≢◌, ◌⊎◌, inl, inr, ◌≡◌, refl, ap, ℕ, ◌-◌, arith, eq-eqb, ne_eqb, None, Some}
 use Rattle.answers.specs.Number.{number_of}
-use Rattle.answers.specs.declared.Answer.TheVariants.{Done, OutOfMemory}
+use Rattle.answers.specs.Answer.{Done, OutOfMemory}
 use Rattle.space.specs.Change.{InsertOut, insert_out}
 use Rattle.space.specs.Lookup.{search_id}
 use Rattle.space.proofs.laws.Insert.{Accepts, insert_by_cases}

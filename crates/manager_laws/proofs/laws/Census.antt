@@ -14,9 +14,8 @@ use Rattle.registry.specs.RegisteringLaws.{registered_among}
 use Rattle.registry.specs.Words.{has_list}
 use Rattle.space.specs.Ids.{ids_of, entry_ids}
 use Rattle.space.specs.Words.{table_of, slot_words}
-use Rattle.steps.specs.Replies.{refusal}
+use Rattle.steps.specs.Replies.{refusal, Reply}
 use Rattle.steps.specs.Steps.{space_of}
-use Rattle.steps.specs.declared.Reply.{Reply}
 use Rattle.steps.proofs.laws.Entered.{world_called, space_called}
 use Rattle.table.specs.Insert.{live_entries}
 use Rattle.table.specs.Slots.{is_live, id_of, entry_at}
@@ -25,8 +24,7 @@ use Rattle.world.specs.Numbers.{numbers_of, registered_of}
 use Rattle.world.specs.Regions.{registry, view}
 use Rattle.world.specs.Sound.{ids, states, links, Sound}
 use Rattle.world.specs.declared.Numbers.{Numbers}
-use Rattle.manager_calls.specs.Calls.{tree_stats_out, census_out}
-use Rattle.manager_calls.specs.declared.TreeReply.{TreeReply}
+use Rattle.manager_calls.specs.Calls.{tree_stats_out, census_out, TreeReply}
 
 -- m of the numbers below n have P: there is a test that exactly those pass, and m pass it.
 pub record Counts (n : ℕ) (P : ℕ → Type 0) (m : ℕ) : Type 0 where

@@ -2,7 +2,7 @@
 -- registry, which is the order of registration.
 use Rattle.std.proofs.Common.{List, ◌↔◌, ◌≡◌, refl, sym, ap, ◌∙◌, ℕ, ◌<◌, arith, length, get_or}
 use Rattle.answers.specs.Number.{number_of}
-use Rattle.answers.specs.declared.Answer.TheVariants.{Done}
+use Rattle.answers.specs.Answer.{Done}
 use Rattle.base.specs.Members.{In}
 use Rattle.base.specs.Written.{written}
 use Rattle.registry.specs.Children.{child_places, ids_at, child_ids}

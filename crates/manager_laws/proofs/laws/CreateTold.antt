@@ -1,14 +1,11 @@
 -- When each answer of create is given: 26 exactly on memory that is not sound, 20 exactly on a sound one for a space number of S or more,
 -- and 21, 5, 9, 22, 4 and 0 exactly in their stated cases.
-use Rattle.std.proofs.Common.{Bool, false, List, ◌↔◌, ◌≡◌, sym, ap, subst, ◌∙◌, ℕ, ◌≤◌, ◌<◌, eqb}
+use Rattle.std.proofs.Common.{Bool, false, List, ◌↔◌, ◌≡◌, sym, ap, subst, ◌∙◌, ℕ, ◌≤◌, ◌<◌, eqb, Option, Some, None}
 use Rattle.answers.specs.Number.{number_of}
-use Rattle.answers.specs.declared.Answer.{Answer}
-use Rattle.answers.specs.declared.Answer.TheVariants.{Done, OutOfMemory, InvalidObject, IdExhausted, BadSpace, BadField, RegistryFull, BadWorld}
+use Rattle.answers.specs.Answer.{Answer, Done, OutOfMemory, InvalidObject, IdExhausted, BadSpace, BadField, RegistryFull, BadWorld}
 use Rattle.space.proofs.laws.Insert.{Accepts}
-use Rattle.steps.specs.Replies.{Left}
+use Rattle.steps.specs.Replies.{Left, Reply}
 use Rattle.steps.specs.Steps.{space_of, taken_id}
-use Rattle.steps.specs.declared.Reply.{Reply}
-use Rattle.steps.specs.declared.Taken.TheVariants.{Exhausted}
 use Rattle.base.specs.Cases.{stated}
 use Rattle.steps.proofs.laws.Cases.{answer_of}
 use Rattle.steps.proofs.laws.Told.{Told}
@@ -38,7 +35,7 @@ module _ (mem : List ℕ) (s object : ℕ) (valid : Bool) (cap_type rights : ℕ
       (stated (eqb n 20) (Sound mem × ((numbers_of mem).spaces ≤ s))
       (stated (eqb n 21) (Sound mem × ((s < (numbers_of mem).spaces) × (15 < cap_type)))
       (stated (eqb n 5) (Sound mem × ((s < (numbers_of mem).spaces) × ((cap_type ≤ 15) × (valid ≡ false))))
-      (stated (eqb n 9) (Asked × (taken_id (numbers_of mem) mem ≡ Exhausted))
+      (stated (eqb n 9) (Asked × (taken_id (numbers_of mem) mem ≡ None))
       (stated (eqb n 22) (Took × ((numbers_of mem).places ≤ registered_of mem))
       (stated (eqb n 4) ((t : Took) × ((registered_of mem < (numbers_of mem).places) × (¬ Takes t)))
       ((t : Took) × ((registered_of mem < (numbers_of mem).places) × Takes t))))))))
@@ -87,7 +84,7 @@ module _ (mem : List ℕ) (s object : ℕ) (valid : Bool) (cap_type rights : ℕ
 
   pub create_told_9 :
       ((create_out mem s object valid cap_type rights).reply.answer ≡ IdExhausted)
-      ↔ (Asked × (taken_id (numbers_of mem) mem ≡ Exhausted))
+      ↔ (Asked × (taken_id (numbers_of mem) mem ≡ None))
   create_told_9 = (in_case IdExhausted, λ (a, is). answers (create.exhausted a is))
 
   pub create_told_22 :

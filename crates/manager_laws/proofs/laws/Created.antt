@@ -1,18 +1,14 @@
 -- Every way through create (`Way`): when it is taken, and what it answers and leaves.
-use Rattle.std.proofs.Common.{Bool, true, false, not, List, ◌≢◌, ⊎_elim, ◌≡◌, refl, sym, ap, subst, ◌∙◌, ℕ, ◌-◌, ◌≤◌, ◌<◌, arith, lt-ltb, le-ltb, ltb}
+use Rattle.std.proofs.Common.{Bool, true, false, not, List, ◌≢◌, ⊎_elim, ◌≡◌, refl, sym, ap, subst, ◌∙◌, ℕ, ◌-◌, ◌≤◌, ◌<◌, arith, lt-ltb, le-ltb, ltb, Option, Some, None}
 use Rattle.std.proofs.Math.Decide.{dec_lt}
 use Rattle.std.proofs.Math.Logic.{by_cases}
 use Rattle.answers.specs.Number.{number_of}
-use Rattle.answers.specs.declared.Answer.{Answer}
-use Rattle.answers.specs.declared.Answer.TheVariants.{Done, OutOfMemory, InvalidObject, IdExhausted, BadSpace, BadField, RegistryFull, BadWorld}
+use Rattle.answers.specs.Answer.{Answer, Done, OutOfMemory, InvalidObject, IdExhausted, BadSpace, BadField, RegistryFull, BadWorld}
 use Rattle.base.specs.Choose.{when_yes, when_no}
 use Rattle.space.specs.Change.{insert_out}
 use Rattle.space.proofs.laws.Insert.{Accepts}
-use Rattle.steps.specs.Replies.{Left, replied, refuse}
+use Rattle.steps.specs.Replies.{Left, replied, refuse, Reply}
 use Rattle.steps.specs.Steps.{space_of, new_entry, insert_step, taken_id, take_step, register_step, unregister_step, recycle_step, add_step}
-use Rattle.steps.specs.declared.Reply.{Reply}
-use Rattle.steps.specs.declared.Taken.{Taken}
-use Rattle.steps.specs.declared.Taken.TheVariants.{Id, Exhausted}
 use Rattle.steps.proofs.laws.Entered.{space_by_cases, space_bad, space_none, space_called}
 use Rattle.steps.proofs.laws.OnlyIds.{take_only_ids}
 use Rattle.steps.proofs.laws.RegistrySteps.{register_step_changes}
@@ -45,7 +41,7 @@ module _ (mem : List ℕ) (s object : ℕ) (valid : Bool) (cap_type rights : ℕ
   pub record Took : Type 0 where
     pub asked : Asked
     pub id : ℕ
-    pub is : taken_id (numbers_of mem) mem ≡ Id id
+    pub is : taken_id (numbers_of mem) mem ≡ Some id
 
   abbrev pub new_token : Took → ℕ
   new_token t = token_of t.id cap_type rights
@@ -60,7 +56,7 @@ module _ (mem : List ℕ) (s object : ℕ) (valid : Bool) (cap_type rights : ℕ
     bad_space : Sound mem → (numbers_of mem).spaces ≤ s → Way
     bad_type : Sound mem → s < (numbers_of mem).spaces → 15 < cap_type → Way
     bad_object : Sound mem → s < (numbers_of mem).spaces → cap_type ≤ 15 → valid ≡ false → Way
-    exhausted : Asked → taken_id (numbers_of mem) mem ≡ Exhausted → Way
+    exhausted : Asked → taken_id (numbers_of mem) mem ≡ None → Way
     full : (t : Took) → (numbers_of mem).places ≤ registered_of mem → Way
     refused : (t : Took) → registered_of mem < (numbers_of mem).places → ¬ Accepts (space_of (numbers_of mem) s mem) (entry_for t) → Way
     accepted : (t : Took) → registered_of mem < (numbers_of mem).places → Accepts (space_of (numbers_of mem) s mem) (entry_for t) → Way
@@ -103,9 +99,9 @@ module _ (mem : List ℕ) (s object : ℕ) (valid : Bool) (cap_type rights : ℕ
       (λ room. ⊎_elim (accepted t room) (refused t room) (accepts_or_not (space_of d s mem) (entry_for t)))
       (λ none. full t (omega arith))
 
-  asked_way : (a : Asked) (t : Taken) → taken_id (numbers_of mem) mem ≡ t → Way
-  asked_way a Exhausted is = exhausted a is
-  asked_way a (Id id) is = took_way (record { asked = a; id = id; is = is })
+  asked_way : (a : Asked) (t : Option ℕ) → taken_id (numbers_of mem) mem ≡ t → Way
+  asked_way a None is = exhausted a is
+  asked_way a (Some id) is = took_way (record { asked = a; id = id; is = is })
 
   pub way : Way
   way =
@@ -128,7 +124,7 @@ module _ (mem : List ℕ) (s object : ℕ) (valid : Bool) (cap_type rights : ℕ
     sound : Sound mem
     sound = t.asked.sound
 
-    took_goes : create_out mem s object valid cap_type rights ≡ created d s object cap_type rights taken (Id t.id)
+    took_goes : create_out mem s object valid cap_type rights ≡ created d s object cap_type rights taken (Some t.id)
     took_goes = asked_goes t.asked ∙ ap (created d s object cap_type rights taken) t.is
 
     -- Taking an id leaves the number of registered ones as it is,

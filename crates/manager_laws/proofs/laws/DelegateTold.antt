@@ -5,13 +5,10 @@ use Rattle.std.proofs.Common.{Bool, true, false, List, ◌↔◌, ◌≢◌, ◌
 use Rattle.std.proofs.Math.Decide.{dec_lt}
 use Rattle.std.proofs.Math.Logic.{by_cases}
 use Rattle.answers.specs.Number.{number_of}
-use Rattle.answers.specs.declared.Answer.{Answer}
-use Rattle.answers.specs.declared.Answer.TheVariants.{Done, InvalidCapability, CapabilityRevoked, OutOfMemory, PermissionDenied, IdExhausted, QuotaExceeded, BadSpace, RegistryFull, BadWorld}
+use Rattle.answers.specs.Answer.{Answer, Done, InvalidCapability, CapabilityRevoked, OutOfMemory, PermissionDenied, IdExhausted, QuotaExceeded, BadSpace, RegistryFull, BadWorld}
 use Rattle.space.proofs.laws.Insert.{Accepts}
-use Rattle.steps.specs.Replies.{Left}
+use Rattle.steps.specs.Replies.{Left, Reply}
 use Rattle.steps.specs.Steps.{space_of, lookup_step, taken_id, objects, children_of}
-use Rattle.steps.specs.declared.Reply.{Reply}
-use Rattle.steps.specs.declared.Taken.TheVariants.{Exhausted}
 use Rattle.base.specs.Cases.{stated}
 use Rattle.steps.proofs.laws.Cases.{answer_of}
 use Rattle.steps.proofs.laws.Taking.{none_taken}
@@ -89,7 +86,7 @@ module _ (mem : List ℕ) (token source target rights : ℕ) where
       (stated (eqb n 1) ((Entered × (got ≡ None)) ⊎ ((t : Took) × (registered_of (from t) ≤ parent t)))
       (stated (eqb n 6) (Entered × ((e : CapabilityEntry) × ((got ≡ Some e) × (holds e.rights.0 GRANT ≡ false))))
       (stated (eqb n 10) ((g : Granted) × ((held g ≡ false) × (1024 ≤ remain g)))
-      (stated (eqb n 9) ((a : Asked) × (taken_id (numbers_of mem) (base a.granted) ≡ Exhausted))
+      (stated (eqb n 9) ((a : Asked) × (taken_id (numbers_of mem) (base a.granted) ≡ None))
       (stated (eqb n 3)
       ((t : Took) × ((parent t < registered_of (from t)) × (current (numbers_of mem) (from t) token (parent t) ≡ false)))
       (stated (eqb n 22) ((g : Good) × ((numbers_of mem).places ≤ registered_of (from g.took)))
@@ -160,7 +157,7 @@ module _ (mem : List ℕ) (token source target rights : ℕ) where
 
   pub delegate_told_9 :
       ((delegate_out mem token source target rights).reply.answer ≡ IdExhausted)
-      ↔ ((a : Asked) × (taken_id (numbers_of mem) (base a.granted) ≡ Exhausted))
+      ↔ ((a : Asked) × (taken_id (numbers_of mem) (base a.granted) ≡ None))
   delegate_told_9 = (in_case IdExhausted, λ (a, is). answers (delegate.exhausted a is))
 
   pub delegate_told_3 :

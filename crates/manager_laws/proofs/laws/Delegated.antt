@@ -3,17 +3,13 @@ use Rattle.std.proofs.Common.{Bool, true, false, not, List, ◌≢◌, ⊎_elim,
 use Rattle.std.proofs.Math.Decide.{dec_lt}
 use Rattle.std.proofs.Math.Logic.{by_cases}
 use Rattle.answers.specs.Number.{number_of}
-use Rattle.answers.specs.declared.Answer.{Answer}
-use Rattle.answers.specs.declared.Answer.TheVariants.{Done, InvalidCapability, CapabilityRevoked, OutOfMemory, PermissionDenied, IdExhausted, QuotaExceeded, BadSpace, RegistryFull, BadWorld}
+use Rattle.answers.specs.Answer.{Answer, Done, InvalidCapability, CapabilityRevoked, OutOfMemory, PermissionDenied, IdExhausted, QuotaExceeded, BadSpace, RegistryFull, BadWorld}
 use Rattle.base.specs.Choose.{pick, when_yes, when_no}
 use Rattle.space.specs.Change.{insert_out}
 use Rattle.space.specs.Lookup.{looked_up}
 use Rattle.space.proofs.laws.Insert.{Accepts}
-use Rattle.steps.specs.Replies.{Left, replied, done, refuse}
+use Rattle.steps.specs.Replies.{Left, replied, done, refuse, Reply}
 use Rattle.steps.specs.Steps.{space_of, lookup_step, new_entry, insert_step, taken_id, take_step, objects, register_step, list_step, unregister_step, recycle_step, children_of, add_step}
-use Rattle.steps.specs.declared.Reply.{Reply}
-use Rattle.steps.specs.declared.Taken.{Taken}
-use Rattle.steps.specs.declared.Taken.TheVariants.{Id, Exhausted}
 use Rattle.steps.proofs.laws.Entered.{space_by_cases, space_bad, space_none, space_called}
 use Rattle.steps.proofs.laws.Kept.{Kept, kept_trans}
 use Rattle.steps.proofs.laws.OnlyIds.{take_only_ids}
@@ -83,7 +79,7 @@ module _ (mem : List ℕ) (token source target rights : ℕ) where
   pub record Took : Type 0 where
     pub asked : Asked
     pub id : ℕ
-    pub is : taken_id (numbers_of mem) (base asked.granted) ≡ Id id
+    pub is : taken_id (numbers_of mem) (base asked.granted) ≡ Some id
 
   abbrev pub from : Took → List ℕ
   from t = base t.asked.granted
@@ -115,7 +111,7 @@ module _ (mem : List ℕ) (token source target rights : ℕ) where
     crowded :
         (g : Granted) → (offer g).held ≡ false
         → 1024 ≤ children_of (numbers_of mem) (base g) (parent_in (numbers_of mem) token (offer g).memory) → Way
-    exhausted : (a : Asked) → taken_id (numbers_of mem) (base a.granted) ≡ Exhausted → Way
+    exhausted : (a : Asked) → taken_id (numbers_of mem) (base a.granted) ≡ None → Way
     orphaned : (t : Took) → registered_of (from t) ≤ parent t → Way
     stale : (t : Took) → parent t < registered_of (from t) → current (numbers_of mem) (from t) token (parent t) ≡ false → Way
     full : (g : Good) → (numbers_of mem).places ≤ registered_of (from g.took) → Way
@@ -205,9 +201,9 @@ module _ (mem : List ℕ) (token source target rights : ℕ) where
       go inside true is = good_way (record { took = t; inside = inside; good = is })
       go inside false is = stale t inside is
 
-  asked_way : (a : Asked) (t : Taken) → taken_id (numbers_of mem) (base a.granted) ≡ t → Way
-  asked_way a Exhausted is = exhausted a is
-  asked_way a (Id id) is = took_way (record { asked = a; id = id; is = is })
+  asked_way : (a : Asked) (t : Option ℕ) → taken_id (numbers_of mem) (base a.granted) ≡ t → Way
+  asked_way a None is = exhausted a is
+  asked_way a (Some id) is = took_way (record { asked = a; id = id; is = is })
 
   granted_way : (g : Granted) (b : Bool) → (offer g).held ≡ b → Way
   granted_way g true held = reused g held
@@ -268,7 +264,7 @@ module _ (mem : List ℕ) (token source target rights : ℕ) where
   took_goes :
       (t : Took)
       → delegate_out mem token source target rights
-      ≡ derived d target token (shared t.asked.granted) (take_step d (from t)) (Id t.id)
+      ≡ derived d target token (shared t.asked.granted) (take_step d (from t)) (Some t.id)
   took_goes t = asked_goes t.asked ∙ ap (derived d target token (shared t.asked.granted) (take_step d (from t))) t.is
 
   -- Taking an id leaves the registered ones as they are, so the parent is where it was.

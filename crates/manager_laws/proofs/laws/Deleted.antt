@@ -2,16 +2,15 @@
 -- every other id keeps its object, its state and its parent.
 use Rattle.std.proofs.Common.{List, ◌↔◌, ◌≢◌, ◌≡◌, sym, ap, subst, ◌∙◌, ℕ, suc, ◌+◌, ◌-◌, ◌*◌, ◌%◌, ◌^◌, ◌≤◌, ◌<◌, arith, le-ltb, ne_eqb, length, get_or}
 use Rattle.answers.specs.Number.{number_of}
-use Rattle.answers.specs.declared.Answer.TheVariants.{Done}
+use Rattle.answers.specs.Answer.{Done}
 use Rattle.registry.specs.Holders.{place_of}
 use Rattle.registry.specs.HoldersLaws.{place_holds, place_is}
 use Rattle.registry.specs.Registering.{relinked, unregistered}
 use Rattle.registry.specs.UnregisteringLaws.{unregistered_ids, unregistered_without, unregistered_object, unregistered_state, unregistered_relinked, unregistered_child, unregistered_frees}
 use Rattle.registry.specs.Without.{past, rank, past_rank, rank_inside}
 use Rattle.registry.specs.Words.{id_at, object_at, state_at, link_at}
-use Rattle.steps.specs.Replies.{Left}
+use Rattle.steps.specs.Replies.{Left, Reply}
 use Rattle.steps.specs.Steps.{space_of, place_in, ChildOf, objects, unregister_step, recycle_step}
-use Rattle.steps.specs.declared.Reply.{Reply}
 use Rattle.steps.proofs.laws.RegistryChanged.{RegistryChanged}
 use Rattle.steps.proofs.laws.RegistrySteps.{unregister_step_changes, unregister_step_kept, recycle_step_changes, add_step_changes}
 use Rattle.token.specs.Token.{id_of}

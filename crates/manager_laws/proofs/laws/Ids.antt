@@ -5,11 +5,10 @@ use Rattle.std.proofs.Math.Decide.{dec_lt}
 use Rattle.std.proofs.Math.Logic.{by_cases}
 use lib.Bits.{and_le_r}
 use Rattle.answers.specs.Number.{number_of}
-use Rattle.answers.specs.declared.Answer.TheVariants.{Done}
+use Rattle.answers.specs.Answer.{Done}
 use Rattle.registry.specs.RegisteringLaws.{registered_among}
-use Rattle.steps.specs.Replies.{Left}
+use Rattle.steps.specs.Replies.{Left, Reply}
 use Rattle.steps.specs.Steps.{lookup_step, take_step, place_in, objects, unregister_step, recycle_step}
-use Rattle.steps.specs.declared.Reply.{Reply}
 use Rattle.steps.proofs.laws.Kept.{Kept}
 use Rattle.steps.proofs.laws.RegistrySteps.{unregister_step_kept}
 use Rattle.steps.proofs.laws.SpaceSteps.{lookup_step_kept}

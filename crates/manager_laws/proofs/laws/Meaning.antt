@@ -2,15 +2,14 @@
 -- is registered, unrevoked, of the token's generation; and a collection takes exactly the ids that nothing needs.
 use Rattle.std.proofs.Common.{true, false, true≢false, List, ◌↔◌, ◌≡◌, refl, sym, ap, ◌∙◌, ℕ, ◌+◌, ◌*◌, ◌≤◌, ◌<◌, arith, ltb-true, lt-ltb, eqb, ltb, length, Option, None, Some}
 use Rattle.answers.specs.Number.{number_of}
-use Rattle.answers.specs.declared.Answer.TheVariants.{Done}
+use Rattle.answers.specs.Answer.{Done}
 use Rattle.base.specs.Exactly.{eqb_exactly, both_exactly}
 use Rattle.registry.proofs.CollectionLaws.{collected_exactly}
 use Rattle.registry.specs.Registering.{unneeded}
 use Rattle.registry.specs.Words.{revoked}
 use Rattle.space.specs.Lookup.{looked_up}
-use Rattle.steps.specs.Replies.{Left}
+use Rattle.steps.specs.Replies.{Left, Reply}
 use Rattle.steps.specs.Steps.{space_of, place_in, collect_step}
-use Rattle.steps.specs.declared.Reply.{Reply}
 use Rattle.steps.proofs.laws.RegistrySteps.{collect_step_changes}
 use Rattle.table.specs.declared.CapabilityEntry.{CapabilityEntry}
 use Rattle.token.specs.Rights.{holds}

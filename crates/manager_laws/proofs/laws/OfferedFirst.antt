@@ -8,9 +8,8 @@ use Rattle.space.specs.Lookup.{looked_up, counted}
 use Rattle.space.specs.Sound.{SpaceOf}
 use Rattle.space.proofs.laws.Counted.{used_by, counted_answers}
 use Rattle.space.proofs.laws.Held.{got_as}
-use Rattle.steps.specs.Replies.{Left}
+use Rattle.steps.specs.Replies.{Left, Reply}
 use Rattle.steps.specs.Steps.{space_of, lookup_step, place_in}
-use Rattle.steps.specs.declared.Reply.{Reply}
 use Rattle.base.specs.Cases.{pick_by_cases}
 use Rattle.steps.proofs.laws.OnlySpace.{lookup_in_space}
 use Rattle.steps.proofs.laws.Ready.{is_space}

@@ -2,12 +2,11 @@
 -- a space number of S or more, every other answer exactly in its stated case. CreateTold.antt and DelegateTold.antt say it of the others.
 use Rattle.std.proofs.Common.{Bool, true, false, true≢false, List, ◌↔◌, ◌⊎◌, inl, inr, ⊎_elim, ◌≡◌, refl, sym, ap, ◌∙◌, ℕ, ◌^◌, ◌≤◌, ◌<◌, arith, length}
 use Rattle.answers.specs.Number.{number_of}
-use Rattle.answers.specs.declared.Answer.TheVariants.{Done, InsufficientRights, CapabilityRevoked, NotFound, BadField, RecycleFull, BadWorld}
+use Rattle.answers.specs.Answer.{Done, InsufficientRights, CapabilityRevoked, NotFound, BadField, RecycleFull, BadWorld}
 use Rattle.registry.specs.ChildrenLaws.{child_ids-length}
 use Rattle.space.specs.Lookup.{looked_up}
-use Rattle.steps.specs.Replies.{Left, WithArea, done, refusal}
+use Rattle.steps.specs.Replies.{Left, WithArea, done, refusal, Reply}
 use Rattle.steps.specs.Steps.{space_of, place_in, children_of}
-use Rattle.steps.specs.declared.Reply.{Reply}
 use Rattle.base.specs.Cases.{when_from, either}
 use Rattle.steps.proofs.laws.Cases.{answer_of, Exactly, given, not_given}
 use Rattle.steps.proofs.laws.Entered.{world_by_cases}
@@ -18,9 +17,7 @@ use Rattle.world.specs.Numbers.{numbers_of, registered_of, recycled_of}
 use Rattle.world.specs.Regions.{registry, view}
 use Rattle.world.specs.Sound.{Sound}
 use Rattle.world.specs.declared.Numbers.{Numbers}
-use Rattle.manager_calls.specs.Calls.{delete_out, grants, valid_in, check_out, is_valid_out, stats_out, children_out, tree_stats_out, census_out}
-use Rattle.manager_calls.specs.declared.StatsReply.{StatsReply}
-use Rattle.manager_calls.specs.declared.TreeReply.{TreeReply}
+use Rattle.manager_calls.specs.Calls.{delete_out, grants, valid_in, check_out, is_valid_out, stats_out, children_out, tree_stats_out, census_out, StatsReply, TreeReply}
 use Rattle.manager_laws.proofs.laws.Ways.{delete_by_cases, check_by_cases}
 
 -- ---- 26 and 20: no answer of a call's own is either

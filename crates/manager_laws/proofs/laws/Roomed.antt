@@ -3,7 +3,7 @@
 use Rattle.std.proofs.Common.{not, List, ◌≡◌, refl, ap, ℕ, ◌≤◌, ◌<◌, arith, lt-ltb, le-ltb, ltb}
 use Rattle.std.proofs.Math.Decide.{dec_lt}
 use Rattle.std.proofs.Math.Logic.{by_cases}
-use Rattle.answers.specs.declared.Answer.TheVariants.{QuotaExceeded}
+use Rattle.answers.specs.Answer.{QuotaExceeded}
 use Rattle.base.specs.Choose.{pick, when_yes, when_no}
 use Rattle.steps.specs.Replies.{refuse}
 use Rattle.steps.specs.Steps.{place_in, collect_step, children_of}

@@ -1,12 +1,11 @@
 -- A delegated token's rights lie within both sets: whether new or held already, the target holds it with the bits that the delegator's
 -- entry and the given rights have in common.
 use Rattle.std.proofs.Common.{true, true≢false, List, ⊎_elim, ◌≡◌, refl, sym, ap, subst, ◌∙◌, ℕ, ◌^◌, ◌<◌, arith, eqb-true, Option, None, Some}
-use Rattle.answers.specs.declared.Answer.TheVariants.{Done}
+use Rattle.answers.specs.Answer.{Done}
 use Rattle.space.specs.Lookup.{looked_up}
 use Rattle.space.proofs.laws.Counted.{used, found_again}
-use Rattle.steps.specs.Replies.{Left}
+use Rattle.steps.specs.Replies.{Left, Reply}
 use Rattle.steps.specs.Steps.{space_of, lookup_step}
-use Rattle.steps.specs.declared.Reply.{Reply}
 use Rattle.steps.proofs.laws.OnlySpace.{lookup_in_space}
 use Rattle.steps.proofs.laws.Ready.{is_space}
 use Rattle.steps.proofs.laws.SpaceSteps.{lookup_step_kept}

@@ -1,12 +1,11 @@
 -- Spent ids: issued, and never given back. No step joins an issued id to the recycled ones but recycling it; an id that is taken was not
 -- spent, and giving it back frees no other; every registered id is spent.
-use Rattle.std.proofs.Common.{List, ◌↔◌, ◌≢◌, ◌⊎◌, ⊎_elim, ◌≡◌, sym, ap, subst, ◌∙◌, ℕ, suc, ◌+◌, ◌-◌, ◌*◌, ◌≤◌, ◌<◌, arith, length, set}
+use Rattle.std.proofs.Common.{List, ◌↔◌, ◌≢◌, ◌⊎◌, ⊎_elim, ◌≡◌, sym, ap, subst, ◌∙◌, ℕ, suc, ◌+◌, ◌-◌, ◌*◌, ◌≤◌, ◌<◌, arith, length, set, Option, Some, None}
 use Rattle.registry.specs.Ids.{first_taken}
 use Rattle.registry.specs.IdsLaws.{length_taken, taken_recycled, recycled_with_has}
 use Rattle.base.specs.Distinct.{Among}
 use Rattle.registry.specs.Words.{recycled_at}
 use Rattle.steps.specs.Steps.{taken_id, take_step, recycle_step}
-use Rattle.steps.specs.declared.Taken.TheVariants.{Id}
 use Rattle.steps.proofs.laws.RegistryChanged.{registry_changed, word_changed}
 use Rattle.steps.proofs.laws.RegistrySteps.{recycle_step_changes}
 use Rattle.steps.proofs.laws.TakeStep.{taken_free}
@@ -109,20 +108,20 @@ module _ (d : Numbers) (mem : List ℕ) (sound : SoundAt d mem) where
   take_none = take_by_cases d mem (λ t after. NoneFreed d mem after) smallest_none (λ none more. next_none) (none_refl d mem)
 
   -- The id taken was recycled, or is new.
-  pub taken_from : (id : ℕ) → taken_id d mem ≡ Id id → id < next_of mem → Recycled d mem id
+  pub taken_from : (id : ℕ) → taken_id d mem ≡ Some id → id < next_of mem → Recycled d mem id
   taken_from id =
-      take_by_cases d mem (λ t after. t ≡ Id id → id < next_of mem → Recycled d mem id)
+      take_by_cases d mem (λ t after. t ≡ Some id → id < next_of mem → Recycled d mem id)
       (λ some is l. (0, (some, cc)))
       (λ none more is l. let same : next_of mem ≡ id = cc in absurd (omega arith))
       (λ is l. let z : ◌≡◌ {A = ℕ} 0 1 = cc in absurd (omega arith))
 
   -- So it was not spent.
-  pub taken_unspent : (id x : ℕ) → taken_id d mem ≡ Id id → SpentAt d mem x → id ≢ x
+  pub taken_unspent : (id x : ℕ) → taken_id d mem ≡ Some id → SpentAt d mem x → id ≢ x
   taken_unspent id x is spent same =
       spent.not_recycled (subst (Recycled d mem) same (taken_from id is (rw same spent.issued)))
 
   -- It is spent then.
-  pub taken_spent : (id : ℕ) → taken_id d mem ≡ Id id → SpentAt d (take_step d mem) id
+  pub taken_spent : (id : ℕ) → taken_id d mem ≡ Some id → SpentAt d (take_step d mem) id
   taken_spent id is =
       let free = taken_free d mem sound id is in
       record { issued = free.issued; not_recycled = λ (j, (l, e)). free.not_recycled j l e }

@@ -3,7 +3,7 @@
 use Rattle.std.proofs.Common.{Bool, List, ◌⊎◌, inl, inr, ◌≡◌, refl, ap, subst, ◌∙◌, ℕ, suc, ◌+◌, ◌*◌, ◌%◌, ◌^◌, ◌≤◌, ◌<◌, arith, length, get_or, Some}
 use lib.Bits.{and_le_r}
 use Rattle.answers.specs.Number.{number_of}
-use Rattle.answers.specs.declared.Answer.TheVariants.{Done}
+use Rattle.answers.specs.Answer.{Done}
 use Rattle.registry.specs.HoldersLaws.{HoldersOnly, place_is}
 use Rattle.registry.specs.StatesOnly.{same_ids, same_objects, same_links}
 use Rattle.registry.specs.RegisteringLaws.{NewPlace, registered_new}
@@ -13,8 +13,7 @@ use Rattle.space.specs.Lookup.{looked_up}
 use Rattle.space.proofs.laws.Held.{inserted_is_found}
 use Rattle.space.proofs.laws.Insert.{Accepts}
 use Rattle.steps.specs.Steps.{space_of, new_entry, insert_step, take_step, register_step, place_in, objects, add_step}
-use Rattle.steps.specs.Replies.{Left}
-use Rattle.steps.specs.declared.Reply.{Reply}
+use Rattle.steps.specs.Replies.{Left, Reply}
 use Rattle.steps.proofs.laws.OnlySpace.{Step, insert_in_space}
 use Rattle.steps.proofs.laws.Ready.{is_space}
 use Rattle.steps.proofs.laws.RegistryChanged.{RegistryChanged}

@@ -1,6 +1,6 @@
 -- What create, delegate and delete do, step by step, keeps a sound memory sound (`Kept`): an id that was taken is registered, and its entry
 -- goes into a space or the id leaves again; or it is given back at once; children are offered; a child is registered under its parent.
-use Rattle.std.proofs.Common.{List, ◌≡◌, sym, ap, subst, ◌∙◌, ℕ, suc, ◌+◌, ◌-◌, ◌*◌, ◌^◌, ◌≤◌, ◌<◌, arith, ne_eqb, length}
+use Rattle.std.proofs.Common.{List, ◌≡◌, sym, ap, subst, ◌∙◌, ℕ, suc, ◌+◌, ◌-◌, ◌*◌, ◌^◌, ◌≤◌, ◌<◌, arith, ne_eqb, length, Option, Some, None}
 use Rattle.std.proofs.Math.Decide.{dec_lt}
 use Rattle.std.proofs.Math.Logic.{by_cases}
 use Rattle.base.specs.Below.{one}
@@ -12,7 +12,6 @@ use Rattle.registry.specs.StatesOnly.{same_ids, same_links}
 use Rattle.registry.specs.Rules.{children_same}
 use Rattle.registry.specs.Words.{id_at, revoked, child_of, children}
 use Rattle.steps.specs.Steps.{new_entry, insert_step, taken_id, take_step, place_in, register_step, list_step, unregister_step, recycle_step, collect_step, children_of, add_step}
-use Rattle.steps.specs.declared.Taken.TheVariants.{Id}
 use Rattle.steps.proofs.laws.Kept.{Kept, kept_refl, kept_trans}
 use Rattle.steps.proofs.laws.Ready.{ready_at}
 use Rattle.steps.proofs.laws.ReadyKept.{take_room}
@@ -83,7 +82,7 @@ module _ (d : Numbers) (mem : List ℕ) (id object link : ℕ) (reg : Registrati
       (rw (changed.same_word 12 (omega arith) (omega arith)) reg.hand.room)))
 
 module _ (d : Numbers) (mem : List ℕ) (sound : SoundAt d mem) where
-  pub taken_in_hand : (id : ℕ) → taken_id d mem ≡ Id id → InHand d (take_step d mem) id
+  pub taken_in_hand : (id : ℕ) → taken_id d mem ≡ Some id → InHand d (take_step d mem) id
   taken_in_hand id is = record { free = taken_free d mem sound id is; room = take_room d mem (ready_at d mem sound) id is }
 
   pub given_back : (id : ℕ) → InHand d mem id → Kept d mem (recycle_step d id mem)

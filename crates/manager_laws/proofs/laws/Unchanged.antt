@@ -1,11 +1,10 @@
 -- What refusals of create, delete and check leave. A refusal's value is 0 and it changes nothing, except: a lookup stays counted; an id
 -- that create took goes to the recycled ones. DelegateTold.antt says it of delegate.
 use Rattle.std.proofs.Common.{Bool, List, ◌≢◌, ◌≡◌, refl, sym, ap, subst, ◌∙◌, ℕ, ◌≤◌, ◌<◌, arith, get_or}
-use Rattle.answers.specs.declared.Answer.TheVariants.{Done, OutOfMemory, RegistryFull}
+use Rattle.answers.specs.Answer.{Done, OutOfMemory, RegistryFull}
 use Rattle.space.proofs.laws.Insert.{Accepts}
-use Rattle.steps.specs.Replies.{Left}
+use Rattle.steps.specs.Replies.{Left, Reply}
 use Rattle.steps.specs.Steps.{space_of, lookup_step, take_step, recycle_step}
-use Rattle.steps.specs.declared.Reply.{Reply}
 use Rattle.steps.proofs.laws.Taking.{none_taken}
 use Rattle.steps.proofs.laws.OnlyIds.{take_only_ids}
 use Rattle.world.specs.Numbers.{numbers_of, registered_of}

@@ -1,15 +1,13 @@
 -- The manager's calls that only read: a refusal's value is 0, and a refused list of children leaves the lent area as it was. Unchanged.antt
 -- says it of the others.
 use Rattle.std.proofs.Common.{List, ◌≢◌, ◌≡◌, refl, ℕ}
-use Rattle.answers.specs.declared.Answer.TheVariants.{Done}
+use Rattle.answers.specs.Answer.{Done}
 use Rattle.steps.specs.Replies.{WithArea, refusal}
 use Rattle.base.specs.Cases.{either}
 use Rattle.steps.proofs.laws.Cases.{NoValue}
 use Rattle.steps.proofs.laws.Entered.{world_by_cases, space_by_cases}
 use Rattle.steps.proofs.laws.Listed.{into_by_cases}
-use Rattle.manager_calls.specs.Calls.{is_valid_out, no_stats, stats_out, children_out, no_tree, tree_stats_out, census_out}
-use Rattle.manager_calls.specs.declared.StatsReply.{StatsReply}
-use Rattle.manager_calls.specs.declared.TreeReply.{TreeReply}
+use Rattle.manager_calls.specs.Calls.{is_valid_out, no_stats, stats_out, children_out, no_tree, tree_stats_out, census_out, StatsReply, TreeReply}
 
 module _ (mem : List ℕ) where
   pub is_valid_value : (token : ℕ) → (is_valid_out mem token).answer ≢ Done → (is_valid_out mem token).value ≡ 0

@@ -1,12 +1,10 @@
 -- The ways through delete and check: what holds of each ending holds of the call. Created.antt and Delegated.antt have the other two calls.
 use Rattle.std.proofs.Common.{Bool, true, false, not, List, ◌≡◌, sym, ◌∙◌, ℕ, ◌≤◌, ◌<◌}
 use Rattle.std.proofs.lemmas.Bool.{not-true, not-false}
-use Rattle.answers.specs.declared.Answer.{Answer}
-use Rattle.answers.specs.declared.Answer.TheVariants.{Done, InsufficientRights, CapabilityRevoked, NotFound, BadSpace, RecycleFull, BadWorld}
+use Rattle.answers.specs.Answer.{Answer, Done, InsufficientRights, CapabilityRevoked, NotFound, BadSpace, RecycleFull, BadWorld}
 use Rattle.space.specs.Lookup.{looked_up}
-use Rattle.steps.specs.Replies.{Left, replied, done, refuse}
+use Rattle.steps.specs.Replies.{Left, replied, done, refuse, Reply}
 use Rattle.steps.specs.Steps.{space_of, lookup_step, place_in, unregister_step, recycle_step, add_step}
-use Rattle.steps.specs.declared.Reply.{Reply}
 use Rattle.base.specs.Cases.{when_by_cases, when_below, unless_below}
 use Rattle.steps.proofs.laws.Entered.{world_by_cases, space_by_cases}
 use Rattle.token.specs.Token.{id_of}

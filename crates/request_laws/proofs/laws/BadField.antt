@@ -1,14 +1,16 @@
 -- When a record is answered 21, on a sound memory of 4 spaces: where it is refused for a field, and for a space revoke of an id over
 -- 2^48-1. No other call of a record has a field out of its range, nor a drain too short an area.
-use Rattle.std.proofs.Common.{List, ◌↔◌, ◌≢◌, ◌⊎◌, inl, inr, ⊎_elim, ◌≡◌, refl, subst, sym, ap, ◌∙◌, ℕ, ◌^◌, ◌≤◌, ◌<◌, arith, eqb-true, ltb-true, eqb, ltb, length, Option, None, Some}
+use Rattle.std.proofs.Common.{List, ◌↔◌, ◌≢◌, ◌⊎◌, inl, inr, ⊎_elim, ◌≡◌, refl, subst, sym, ap, ◌∙◌, ℕ, ◌^◌, ◌≤◌, ◌<◌, arith, eqb-true, ltb-true, eqb, ltb, length, Option, None, Some, ⊤, tt, Result, Ok, Err}
+use Rattle.answers.specs.Answer.{answer_of}
+use Rattle.answers.specs.declared.Refusal.{Refusal}
+use Rattle.answers.specs.declared.Refusal.TheVariants as refusal
 use Rattle.std.proofs.Math.Decide.{dec_lt}
 use Rattle.std.proofs.Math.ListN.{length-replicate}
 use Rattle.std.proofs.Math.Logic.{by_cases}
 use mathlib.Core.List.{replicate}
 use borrow.Author.Tests.{eqb-false}
 use Rattle.answers.specs.Number.{number_of}
-use Rattle.answers.specs.declared.Answer.{Answer}
-use Rattle.answers.specs.declared.Answer.TheVariants.{Done, InsufficientRights, CapabilityRevoked, AlreadyExists, NotFound, SpaceQuota, SpaceIds, BadSpace, BadField, RecycleFull, BadWorld}
+use Rattle.answers.specs.Answer.{Answer, Done, InsufficientRights, CapabilityRevoked, AlreadyExists, NotFound, SpaceQuota, SpaceIds, BadSpace, BadField, RecycleFull, BadWorld}
 use Rattle.delegation_calls.specs.Delegation.{delegate_out}
 use Rattle.manager_laws.proofs.laws.CreateTold.{create_told_21}
 use Rattle.manager_laws.proofs.laws.Delegated as delegate
@@ -32,9 +34,8 @@ use Rattle.space_laws.proofs.laws.Ways.{create_by_cases}
 use Rattle.base.specs.Cases.{when_by_cases, either}
 use Rattle.steps.proofs.laws.Entered.{space_by_cases}
 use Rattle.steps.specs.Enter.{on_space}
-use Rattle.steps.specs.Replies.{Left, refuse}
+use Rattle.steps.specs.Replies.{Left, refuse, Reply}
 use Rattle.steps.specs.Steps.{space_of, new_entry}
-use Rattle.steps.specs.declared.Reply.{Reply}
 use Rattle.table.specs.declared.CapabilityEntry.{CapabilityEntry}
 use Rattle.world.specs.Numbers.{numbers_of}
 use Rattle.world.specs.Sound.{Sound}
@@ -42,8 +43,6 @@ use Rattle.world.specs.declared.Numbers.{Numbers}
 use Rattle.request.specs.Reading.{reads, verdict_of}
 use Rattle.request.specs.ReadingLaws.{good_exactly}
 use Rattle.request.specs.declared.Request.{Request}
-use Rattle.request.specs.declared.Verdict.{Verdict}
-use Rattle.request.specs.declared.Verdict.TheVariants.{Good, Refused}
 use Rattle.request_run.specs.Run.{pids, drained, called_1_to_5, called_6_to_10, called_11_to_15, called, judged, answered}
 
 other : (a : Answer) → number_of a ≢ 21 → a ≢ BadField
@@ -220,25 +219,21 @@ module _ (mem : List ℕ) (sound : Sound mem) where
     pub served_21 :
         (numbers_of mem).spaces ≡ 4
         → ((answered r mem).reply.answer ≡ BadField)
-        ↔ ((verdict_of r 4 ≡ Refused BadField) ⊎ ((verdict_of r 4 ≡ Good) × ((r.op ≡ 13) × (2 ^ 48 ≤ r.a))))
+        ↔ ((verdict_of r 4 ≡ Err refusal.BadField) ⊎ ((verdict_of r 4 ≡ Ok tt) × ((r.op ≡ 13) × (2 ^ 48 ≤ r.a))))
     unfolding answered
     served_21 four = go (verdict_of r 4) refl
       where
-        answer_of : Verdict → Answer
-        answer_of Good = Done
-        answer_of (Refused a) = a
+        goodness : Result ⊤ Refusal → ℕ
+        goodness (Ok made) = 1
+        goodness (Err a) = 0
 
-        goodness : Verdict → ℕ
-        goodness Good = 1
-        goodness (Refused a) = 0
-
-        go : (v : Verdict) → verdict_of r 4 ≡ v
-            → ((judged v r mem).reply.answer ≡ BadField) ↔ ((v ≡ Refused BadField) ⊎ ((v ≡ Good) × Over))
-        go (Refused a) is = (
-          λ e. inl (ap Refused e),
+        go : (v : Result ⊤ Refusal) → verdict_of r 4 ≡ v
+            → ((judged v r mem).reply.answer ≡ BadField) ↔ ((v ≡ Err refusal.BadField) ⊎ ((v ≡ Ok tt) × Over))
+        go (Err a) is = (
+          λ e. inl (cc e),
           ⊎_elim (λ e. ap answer_of e) (λ (e, over). absurd (omega (arith, ap goodness e))),
         )
-        go Good is =
+        go (Ok tt) is =
             let near = ((good_exactly r 4).0 is).2 in
             let there : r.op ≡ 13 → r.space < d.spaces =
             λ is_13. omega (arith, four, near 0 (omega arith) (ap (λ op. reads op 0) is_13)) in (

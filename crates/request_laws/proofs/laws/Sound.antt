@@ -1,8 +1,8 @@
 -- A record's call keeps a sound memory sound and is not given 26; so a run on an opened memory is sound throughout and prints no 26.
-use Rattle.std.proofs.Common.{Bool, List, ◌↔◌, ◌≢◌, ◌≡◌, refl, subst, sym, ap, ◌∙◌, ℕ, zero, suc, ◌*◌, ◌^◌, ◌≤◌, ◌<◌, arith, eqb, length}
+use Rattle.std.proofs.Common.{Bool, List, ◌↔◌, ◌≢◌, ◌≡◌, refl, subst, sym, ap, ◌∙◌, ℕ, zero, suc, ◌*◌, ◌^◌, ◌≤◌, ◌<◌, arith, eqb, length, ⊤, Result}
+use Rattle.answers.specs.declared.Refusal.{Refusal}
 use Rattle.answers.specs.Number.{number_of}
-use Rattle.answers.specs.declared.Answer.{Answer}
-use Rattle.answers.specs.declared.Answer.TheVariants.{BadSpace, BadField, BadWorld}
+use Rattle.answers.specs.Answer.{Answer, BadSpace, BadField, BadWorld}
 use Rattle.manager_laws.proofs.laws.CreateTold.{create_entered}
 use Rattle.manager_laws.proofs.laws.DelegateTold.{delegate_told_26}
 use Rattle.manager_laws.proofs.laws.Refused.{check_entered, delete_entered}
@@ -14,8 +14,7 @@ use Rattle.space_laws.proofs.laws.Sound as space
 use Rattle.base.specs.Cases.{either}
 use Rattle.steps.proofs.laws.Kept.{Kept, kept_refl, kept_trans}
 use Rattle.steps.proofs.laws.Told.{Told}
-use Rattle.steps.specs.Replies.{Left, refuse}
-use Rattle.steps.specs.declared.Reply.{Reply}
+use Rattle.steps.specs.Replies.{Left, refuse, Reply}
 use Rattle.world.specs.Numbers.{numbers_of}
 use Rattle.world.specs.Open.{opened}
 use Rattle.world.specs.Opened.{opened_numbers}
@@ -25,7 +24,6 @@ use Rattle.world.specs.Sound.{SoundAt, Sound}
 use Rattle.request.specs.Reading.{verdict_of}
 use Rattle.request.specs.Record.{request_of}
 use Rattle.request.specs.declared.Request.{Request}
-use Rattle.request.specs.declared.Verdict.{Verdict}
 use Rattle.request_run.proofs.laws.Room.{numbers_good}
 use Rattle.request_run.specs.ByRecord.{memory_after, reply_after}
 use Rattle.request_run.specs.Run.{numbers, quotas, pids, drained, called_1_to_5, called_6_to_10, called_11_to_15, called, judged, answered}
@@ -105,7 +103,7 @@ module _ (mem : List ℕ) (sound : Sound mem) where
         (either Judged _ _ _ bad_field
         (either Judged _ _ _ (refused BadSpace (λ e. omega arith)) (either Judged _ _ _ bad_field called_sound)))
       where
-        Judged : Verdict → Type 0
+        Judged : Result ⊤ Refusal → Type 0
         Judged v = Fine mem (judged v r mem)
 
         bad_field : Fine mem (refuse mem BadField)

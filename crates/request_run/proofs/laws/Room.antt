@@ -6,8 +6,7 @@ use Rattle.answers.specs.Number.{number_of}
 use Rattle.base.specs.Below.{all}
 use Rattle.base.specs.Choose.{pick, when_no}
 use Rattle.base.specs.Written.{written}
-use Rattle.steps.specs.Replies.{Left, WithArea}
-use Rattle.steps.specs.declared.Reply.{Reply}
+use Rattle.steps.specs.Replies.{Left, WithArea, Reply}
 use Rattle.world.specs.Layout.{stream_length}
 use Rattle.world.specs.Numbers.{in_range_test}
 use Rattle.world.specs.Open as world

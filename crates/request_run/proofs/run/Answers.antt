@@ -1,11 +1,9 @@
 -- `request_run::run` meets its contract: each test decides one choice, and what is served is the whole run.
 use Rattle.std.proofs.Common.{◌≡◌, sym, ap, ◌∙◌, ◌≢◌, not, List, ℕ, ◌*◌, ◌<◌, ◌≤◌, zero-add, arith, rules, eq-eqb, ne_eqb, lt-ltb, le-ltb, length}
 use Rattle.answers.specs.Number.{number_of}
-use Rattle.answers.specs.declared.Answer.{Answer}
-use Rattle.answers.specs.declared.Answer.TheVariants.{BadField}
+use Rattle.answers.specs.Answer.{Answer, BadField}
 use Rattle.base.specs.Choose.{when_yes, when_no}
-use Rattle.steps.specs.Replies.{Left, WithArea, done, refusal}
-use Rattle.steps.specs.declared.Reply.{Reply}
+use Rattle.steps.specs.Replies.{Left, WithArea, done, refusal, Reply}
 use Rattle.world.specs.Open as world
 use Rattle.request.specs.Laid.{laid_front}
 use Rattle.request_run.specs.Run.{Ran, numbers, quotas, whole_run, lines_for, unwritten, laid_out, run_out}

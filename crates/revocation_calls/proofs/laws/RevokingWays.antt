@@ -1,14 +1,13 @@
 -- The ways through a revocation: what holds of each ending holds of the whole.
 use Rattle.std.proofs.Common.{List, [], ◌∷◌, ◌≡◌, ℕ, ◌+◌, ◌≤◌, ◌<◌, arith, ltb-true, ltb-false, eqb-true, eqb, ltb, length}
 use borrow.Author.Tests.{eqb-false}
-use Rattle.answers.specs.declared.Answer.TheVariants.{LogFull, PidTableFull}
+use Rattle.answers.specs.Answer.{LogFull, PidTableFull}
 use Rattle.registry.specs.Words.{revoked}
 use Rattle.revocation.specs.Log.{pair_of, absent_of}
 use Rattle.revocation_steps.specs.Revocation.{log_of, log_step, free_queues, cascade_pairs}
 use Rattle.revocation_steps.proofs.laws.CascadeSteps.{revoke_step, cascade_queues}
-use Rattle.steps.specs.Replies.{Left, done, refuse}
+use Rattle.steps.specs.Replies.{Left, done, refuse, Reply}
 use Rattle.steps.specs.Steps.{place_in, add_step}
-use Rattle.steps.specs.declared.Reply.{Reply}
 use Rattle.base.specs.Cases.{pick_by_cases, when_by_cases, when_below}
 use Rattle.token.specs.Token.{id_of, generation_of}
 use Rattle.world.specs.Numbers.{registered_of, logged_of, epoch_word}

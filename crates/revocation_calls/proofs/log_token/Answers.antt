@@ -1,6 +1,6 @@
 -- Of the token's pair alone what the log has not is kept; it joins where there is room.
 use Rattle.std.proofs.Common.{List, [], ◌∷◌, ◌≡◌, refl, sym, ap, ◌∙◌, ℕ, ◌+◌, ◌%◌, ◌^◌, ◌≤◌, ◌<◌, arith, lt-ltb, le-ltb, length, take, length-take-le}
-use Rattle.answers.specs.declared.Answer.TheVariants.{LogFull}
+use Rattle.answers.specs.Answer.{LogFull}
 use Rattle.base.specs.Choose.{when_yes, when_no}
 use Rattle.revocation.specs.Log.{pair_of, absent_of}
 use Rattle.revocation_steps.specs.Revocation.{log_of, log_step}

@@ -2,9 +2,8 @@
 use Rattle.std.proofs.Common.{true, false, not, List, ◌≡◌, ap, ◌∙◌, ℕ, ◌≤◌, ◌<◌, ltb}
 use Rattle.steps.proofs.WorldCalls.{world_calls}
 use Rattle.base.specs.Cases.{not_below, is_below}
-use Rattle.steps.specs.Replies.{Left}
+use Rattle.steps.specs.Replies.{Left, Reply}
 use Rattle.steps.specs.Steps.{place_in}
-use Rattle.steps.specs.declared.Reply.{Reply}
 use Rattle.token.specs.Token.{id_of}
 use Rattle.world.specs.Numbers.{registered_of}
 use Rattle.world.specs.declared.Numbers.{Numbers}

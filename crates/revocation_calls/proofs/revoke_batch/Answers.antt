@@ -1,8 +1,7 @@
 -- Entered, the batch is measured, then the process list; then each token has its turn.
 use Rattle.std.proofs.Common.{List, ◌≡◌, ap, ◌∙◌, ℕ}
 use Rattle.steps.proofs.WorldCalls.{world_calls}
-use Rattle.steps.specs.Replies.{Left}
-use Rattle.steps.specs.declared.Reply.{Reply}
+use Rattle.steps.specs.Replies.{Left, Reply}
 use Rattle.revocation_calls.specs.Calls.{revoke_batch_out}
 use Rattle.revocation_calls.proofs.revoke_batch.Goals as goal
 

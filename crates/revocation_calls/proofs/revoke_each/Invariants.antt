@@ -3,8 +3,7 @@ use Rattle.std.proofs.Common.{List, ◌≢◌, ◌≡◌, refl, ap, ℕ, ◌+◌
 use Rattle.answers.specs.Number.{number_of}
 use Rattle.base.specs.Below.{one}
 use Rattle.base.specs.Rest.{drop_next}
-use Rattle.steps.specs.Replies.{Left, done}
-use Rattle.steps.specs.declared.Reply.{Reply}
+use Rattle.steps.specs.Replies.{Left, done, Reply}
 use Rattle.world.specs.Sound.{SoundAt}
 use Rattle.world.specs.declared.Numbers.{Numbers}
 use Rattle.revocation_calls.specs.Revoking.{revoking_token, revoking_each}

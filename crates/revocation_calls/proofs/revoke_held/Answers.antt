@@ -6,11 +6,10 @@ use Rattle.steps.proofs.Entering.{space_sound, enters}
 use Rattle.base.specs.Cases.{chooses}
 use Rattle.steps.proofs.laws.SpaceSteps.{lookup_step_kept}
 use Rattle.steps.specs.Enter.{entered_space}
-use Rattle.steps.specs.Replies.{Left}
+use Rattle.steps.specs.Replies.{Left, Reply}
 use Rattle.steps.specs.Steps.{space_of, lookup_step}
 use Rattle.steps.specs.declared.Entered.{Entered}
 use Rattle.steps.specs.declared.Entered.TheVariants.{Good}
-use Rattle.steps.specs.declared.Reply.{Reply}
 use Rattle.world.specs.Sound.{SoundAt}
 use Rattle.world.specs.declared.Numbers.{Numbers}
 use Rattle.revocation_calls.specs.Calls.{revoke_held_out}

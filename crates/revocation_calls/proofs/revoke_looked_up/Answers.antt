@@ -1,8 +1,7 @@
 -- What was looked up decides, then REVOKE.
 use Rattle.std.proofs.Common.{Bool, true, false, not, List, ◌≡◌, sym, ap, ◌∙◌, ℕ, rules, Option, None, Some}
-use Rattle.answers.specs.declared.Answer.TheVariants.{InsufficientRights, NotFound}
-use Rattle.steps.specs.Replies.{Left, replied}
-use Rattle.steps.specs.declared.Reply.{Reply}
+use Rattle.steps.specs.Replies.{Left, replied, Reply}
+use Rattle.answers.specs.Answer.{InsufficientRights, NotFound}
 use Rattle.steps.proofs.Leaving.{left_both}
 use Rattle.base.specs.Cases.{when_ends, when_goes_on}
 use Rattle.table.specs.declared.CapabilityEntry.{CapabilityEntry}

@@ -2,9 +2,8 @@
 use Rattle.std.proofs.Common.{List, ◌≡◌, ap, ◌∙◌, ℕ, ◌≤◌, ◌<◌, arith, rules, lt-ltb, le-ltb, ltb, length}
 use Rattle.base.specs.Choose.{pick}
 use Rattle.steps.proofs.laws.Ready.{ready_at}
-use Rattle.steps.specs.Replies.{Left}
+use Rattle.steps.specs.Replies.{Left, Reply}
 use Rattle.steps.specs.Steps.{place_in}
-use Rattle.steps.specs.declared.Reply.{Reply}
 use Rattle.token.specs.Token.{id_of}
 use Rattle.world.specs.Numbers.{registered_of}
 use Rattle.world.specs.Sound.{SoundAt}

@@ -3,8 +3,7 @@
 use Rattle.std.proofs.Common.{List, [], ◌∷◌, ◌≡◌, sym, ap, ◌∙◌, ℕ, ◌+◌, ◌≤◌, add-zero, zero-add, add_assoc, eqb, length}
 use Rattle.answers.specs.Number.{number_of}
 use Rattle.base.specs.Below.{one}
-use Rattle.steps.specs.Replies.{Left, done}
-use Rattle.steps.specs.declared.Reply.{Reply}
+use Rattle.steps.specs.Replies.{Left, done, Reply}
 use Rattle.steps.proofs.laws.Kept.{Kept, kept_sound}
 use Rattle.world.specs.Numbers.{numbers_of}
 use Rattle.world.specs.Sound.{Sound}

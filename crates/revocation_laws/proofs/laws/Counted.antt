@@ -1,6 +1,6 @@
 -- A counted lookup changes nothing that a revocation reads: the revocation answers as it would have before the lookup.
 use Rattle.std.proofs.Common.{Bool, true, false, List, ◌≡◌, refl, ap, ap₂, ◌∙◌, ℕ, ◌<◌, arith, eqb, ltb}
-use Rattle.answers.specs.declared.Answer.TheVariants.{LogFull, PidTableFull}
+use Rattle.answers.specs.Answer.{LogFull, PidTableFull}
 use Rattle.base.specs.Choose.{pick, when}
 use Rattle.registry.specs.Words.{revoked}
 use Rattle.revocation_steps.specs.Revocation.{free_queues}
@@ -8,9 +8,8 @@ use Rattle.revocation_steps.proofs.laws.CascadeSteps.{cascade_queues}
 use Rattle.revocation_steps.proofs.laws.SameQueues.{same_free_queues, same_new_queues}
 use Rattle.space.specs.Lookup.{counted}
 use Rattle.space.proofs.laws.Kept.{lookup_keeps}
-use Rattle.steps.specs.Replies.{Left, done, refusal}
+use Rattle.steps.specs.Replies.{Left, done, refusal, Reply}
 use Rattle.steps.specs.Steps.{lookup_step, place_in}
-use Rattle.steps.specs.declared.Reply.{Reply}
 use Rattle.steps.proofs.laws.OnlySpace.{OnlySpace, lookup_in_space}
 use Rattle.steps.proofs.laws.Ready.{is_space}
 use Rattle.steps.proofs.laws.Stepped.{space_change}

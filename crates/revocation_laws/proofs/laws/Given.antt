@@ -2,14 +2,12 @@
 -- `revoke_capability`, a held revoke.
 use Rattle.std.proofs.Common.{List, ◌≢◌, ◌≡◌, refl, ap, ℕ, ◌≤◌, ◌<◌, arith}
 use Rattle.answers.specs.Number.{number_of}
-use Rattle.answers.specs.declared.Answer.{Answer}
-use Rattle.answers.specs.declared.Answer.TheVariants.{Done}
+use Rattle.answers.specs.Answer.{Answer, Done}
 use Rattle.registry.specs.Words.{revoked}
 use Rattle.revocation_steps.specs.Revocation.{free_queues}
 use Rattle.revocation_steps.proofs.laws.CascadeSteps.{revoke_step, cascade_queues}
-use Rattle.steps.specs.Replies.{Left}
+use Rattle.steps.specs.Replies.{Left, Reply}
 use Rattle.steps.specs.Steps.{lookup_step, place_in}
-use Rattle.steps.specs.declared.Reply.{Reply}
 use Rattle.token.specs.Token.{id_of}
 use Rattle.world.specs.Numbers.{numbers_of, registered_of}
 use Rattle.world.specs.Sound.{states, Sound}

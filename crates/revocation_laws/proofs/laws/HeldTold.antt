@@ -2,11 +2,10 @@
 -- space has not the token and 2 exactly where it has it without REVOKE, else as `revoke_capability` answers; and a batch gives 0.
 use Rattle.std.proofs.Common.{true, false, true≢false, List, ◌↔◌, ◌≢◌, ◌⊎◌, inl, inr, ⊎_elim, ◌≡◌, refl, sym, ap, ◌∙◌, ℕ, ◌≤◌, ◌<◌, arith, length, Option, None, Some}
 use Rattle.answers.specs.Number.{number_of}
-use Rattle.answers.specs.declared.Answer.{Answer}
-use Rattle.answers.specs.declared.Answer.TheVariants.{Done, InsufficientRights, NotFound, BadField, LogFull, PidTableFull}
+use Rattle.answers.specs.Answer.{Answer, Done, InsufficientRights, NotFound, BadField, LogFull, PidTableFull}
 use Rattle.space.specs.Lookup.{looked_up}
 use Rattle.steps.specs.Steps.{space_of, lookup_step}
-use Rattle.steps.specs.declared.Reply.{Reply}
+use Rattle.steps.specs.Replies.{Reply}
 use Rattle.steps.proofs.laws.Cases.{Exactly, given, not_given}
 use Rattle.table.specs.declared.CapabilityEntry.{CapabilityEntry}
 use Rattle.token.specs.Rights.{REVOKE, holds}

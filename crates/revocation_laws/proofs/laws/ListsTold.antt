@@ -1,8 +1,7 @@
 -- When each answer of the calls that list and of those for notifications is given, on a sound memory: 21 exactly for a field out of its
 -- range or an area too short, 25 exactly where a pid has no queue and no place is free, 0 exactly in the rest.
 use Rattle.std.proofs.Common.{Bool, true, false, List, ◌↔◌, ◌⊎◌, inl, inr, ⊎_elim, ◌≡◌, refl, ℕ, ◌^◌, ◌≤◌, ◌<◌, arith, ltb-true, ltb-false, leb-true, leb-false, leb, ltb, length}
-use Rattle.answers.specs.declared.Answer.{Answer}
-use Rattle.answers.specs.declared.Answer.TheVariants.{Done, BadField, PidTableFull, BadWorld}
+use Rattle.answers.specs.Answer.{Answer, Done, BadField, PidTableFull, BadWorld}
 use Rattle.base.specs.Choose.{when}
 use Rattle.revocation.specs.Reason.{reason_of, name_of}
 use Rattle.revocation_steps.specs.Revocation.{queue_for}

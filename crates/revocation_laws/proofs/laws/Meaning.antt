@@ -1,7 +1,7 @@
 -- Document 01, "Revocation": what a revocation given 0 does. Of a registered id: it and all its descendants are revoked then, whatever they
 -- were before; the log has what it had and those newly revoked; nothing else of the registry or the spaces changes.
 use Rattle.std.proofs.Common.{true, List, ◌↔◌, ◌≢◌, ◌⊎◌, inl, inr, ⊎_elim, ◌≡◌, refl, sym, ◌∙◌, ℕ, ◌+◌, ◌%◌, ◌^◌, ◌<◌, arith, length, get_or, take}
-use Rattle.answers.specs.declared.Answer.TheVariants.{Done}
+use Rattle.answers.specs.Answer.{Done}
 use Rattle.base.specs.Distinct.{Differ}
 use Rattle.base.specs.Members.{In}
 use Rattle.registry.specs.DescentLaws.{Under}

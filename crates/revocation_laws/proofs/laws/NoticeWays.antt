@@ -1,12 +1,11 @@
 -- The ways through the calls for notifications: what holds of each ending holds of the whole. And a drain answers what a peek answers.
 use Rattle.std.proofs.Common.{Bool, true, false, not, List, ◌⊎◌, inl, inr, ⊎_elim, ◌≡◌, refl, sym, ℕ, ◌^◌, ◌≤◌, ◌<◌, ltb-true, ltb-false, ltb, length}
 use Rattle.std.proofs.lemmas.Bool.{not-true}
-use Rattle.answers.specs.declared.Answer.TheVariants.{BadField, PidTableFull, BadWorld}
+use Rattle.answers.specs.Answer.{BadField, PidTableFull, BadWorld}
 use Rattle.base.specs.Choose.{both, both_left, both_right, when}
 use Rattle.revocation_steps.specs.Revocation.{queue_for, free_queue, notify_step}
 use Rattle.steps.specs.Enter.{on_world}
-use Rattle.steps.specs.Replies.{Left, WithArea, done, refusal, refuse}
-use Rattle.steps.specs.declared.Reply.{Reply}
+use Rattle.steps.specs.Replies.{Left, WithArea, done, refusal, refuse, Reply}
 use Rattle.base.specs.Cases.{when_by_cases, when_below, when_from}
 use Rattle.steps.proofs.laws.Entered.{world_by_cases}
 use Rattle.world.specs.Numbers.{numbers_of}

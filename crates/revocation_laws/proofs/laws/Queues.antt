@@ -3,7 +3,7 @@
 -- are as they were.
 use Rattle.std.proofs.Common.{Bool, true, false, List, [], ◌∷◌, ◌++◌, ◌≢◌, ◌≡◌, refl, sym, ap, ◌∙◌, ℕ, ◌*◌, ◌≤◌, ◌<◌, arith, ltb-true, ltb-false, ltb, length, drop, drop_of_length-le}
 use Rattle.answers.specs.Number.{number_of}
-use Rattle.answers.specs.declared.Answer.TheVariants.{Done}
+use Rattle.answers.specs.Answer.{Done}
 use Rattle.base.specs.Choose.{pick}
 use Rattle.base.specs.Written.{written}
 use Rattle.registry.specs.ChildrenLaws.{ids_at-length}
@@ -15,9 +15,8 @@ use Rattle.revocation_steps.proofs.laws.CascadeNotices.{revoke_step_notices}
 use Rattle.revocation_steps.proofs.laws.NoticeSteps.{notices_none, notify_joins, freed_others, freed_none}
 use Rattle.revocation_steps.proofs.laws.NoticesSent.{sent_to, all_stay}
 use Rattle.revocation_steps.proofs.laws.SameQueues.{notices_of, same_notices}
-use Rattle.steps.specs.Replies.{Left, WithArea, refuse}
+use Rattle.steps.specs.Replies.{Left, WithArea, refuse, Reply}
 use Rattle.steps.specs.Steps.{lookup_step, place_in}
-use Rattle.steps.specs.declared.Reply.{Reply}
 use Rattle.base.specs.Cases.{pick_by_cases}
 use Rattle.steps.proofs.laws.Entered.{world_by_cases}
 use Rattle.steps.proofs.laws.SpaceSteps.{lookup_step_kept}

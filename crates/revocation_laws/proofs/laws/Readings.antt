@@ -11,16 +11,14 @@ use Rattle.revocation.specs.Queue.{notices}
 use Rattle.revocation_steps.specs.Revocation.{queue_for}
 use Rattle.revocation_steps.proofs.laws.NoticeSteps.{queue_holds, queue_is}
 use Rattle.revocation_steps.proofs.laws.SameQueues.{notices_of}
-use Rattle.steps.specs.Replies.{done, refusal}
-use Rattle.steps.specs.declared.Reply.{Reply}
+use Rattle.steps.specs.Replies.{done, refusal, Reply}
 use Rattle.steps.proofs.laws.Entered.{world_called}
 use Rattle.token.specs.Token.{id_of, generation_of}
 use Rattle.world.specs.Numbers.{numbers_of, epoch_of, logged_of}
 use Rattle.world.specs.Regions.{log, queue, view}
 use Rattle.world.specs.Sound.{log_pairs, pids, lengths, Sound}
 use Rattle.world.specs.declared.Numbers.{Numbers}
-use Rattle.notification_calls.specs.Calls.{notification_count_out, no_queues, notification_stats_out}
-use Rattle.notification_calls.specs.declared.QueuesReply.{QueuesReply}
+use Rattle.notification_calls.specs.Calls.{notification_count_out, no_queues, notification_stats_out, QueuesReply}
 use Rattle.revocation_reads.specs.Calls.{is_revoked_out, epoch_out}
 use Rattle.revocation_laws.proofs.laws.Queues.{listed_count}
 

@@ -2,8 +2,7 @@
 -- 25 and 0 exactly in their stated cases. Told.antt says it of 26.
 use Rattle.std.proofs.Common.{List, ◌↔◌, ◌≢◌, ◌⊎◌, inl, inr, ⊎_elim, ◌≡◌, refl, sym, ℕ, ◌≤◌, ◌<◌, arith, length}
 use Rattle.answers.specs.Number.{number_of}
-use Rattle.answers.specs.declared.Answer.{Answer}
-use Rattle.answers.specs.declared.Answer.TheVariants.{Done, InvalidCapability, BadField, LogFull, PidTableFull}
+use Rattle.answers.specs.Answer.{Answer, Done, InvalidCapability, BadField, LogFull, PidTableFull}
 use Rattle.registry.specs.Words.{revoked}
 use Rattle.revocation_steps.specs.Revocation.{free_queues}
 use Rattle.revocation_steps.proofs.laws.CascadeSteps.{cascade_queues}

@@ -11,9 +11,8 @@ use Rattle.revocation_calls.proofs.laws.Kept.{revoking_token_kept}
 use Rattle.revocation_calls.proofs.laws.RevokingWays.{pairs_after, new_pair, pairs_with, revoking_leaves, token_leaves}
 use Rattle.revocation_steps.specs.Revocation.{log_step, queue_for, notify_step, free_step}
 use Rattle.revocation_steps.proofs.laws.CascadeSteps.{revoke_step}
-use Rattle.steps.specs.Replies.{Left, WithArea}
+use Rattle.steps.specs.Replies.{Left, WithArea, Reply}
 use Rattle.steps.specs.Steps.{lookup_step, add_step}
-use Rattle.steps.specs.declared.Reply.{Reply}
 use Rattle.base.specs.Cases.{pick_by_cases}
 use Rattle.steps.proofs.laws.Entered.{world_by_cases}
 use Rattle.steps.proofs.laws.SpaceSteps.{lookup_step_kept}

@@ -2,12 +2,10 @@
 -- one by the calls with no refusal of their own. RevokeTold.antt, HeldTold.antt and ListsTold.antt say of each other answer when it is
 -- given.
 use Rattle.std.proofs.Common.{List, ◌↔◌, ◌≡◌, refl, ℕ, arith, ltb, length}
-use Rattle.answers.specs.declared.Answer.{Answer}
-use Rattle.answers.specs.declared.Answer.TheVariants.{Done, InvalidCapability, InsufficientRights, NotFound, BadField, PidTableFull, BadWorld}
+use Rattle.answers.specs.Answer.{Answer, Done, InvalidCapability, InsufficientRights, NotFound, BadField, PidTableFull, BadWorld}
 use Rattle.base.specs.Choose.{when}
-use Rattle.steps.specs.Replies.{Left, WithArea, refuse, into_area}
+use Rattle.steps.specs.Replies.{Left, WithArea, refuse, into_area, Reply}
 use Rattle.steps.specs.Steps.{place_in}
-use Rattle.steps.specs.declared.Reply.{Reply}
 use Rattle.base.specs.Cases.{either}
 use Rattle.steps.proofs.laws.Cases.{answer_of}
 use Rattle.steps.proofs.laws.Listed.{into_by_cases}
@@ -16,8 +14,7 @@ use Rattle.token.specs.Token.{id_of}
 use Rattle.world.specs.Numbers.{numbers_of}
 use Rattle.world.specs.Sound.{Sound}
 use Rattle.world.specs.declared.Numbers.{Numbers}
-use Rattle.notification_calls.specs.Calls.{notify_out, peek_out, drain_out, notification_count_out, cleanup_out, notification_stats_out}
-use Rattle.notification_calls.specs.declared.QueuesReply.{QueuesReply}
+use Rattle.notification_calls.specs.Calls.{notify_out, peek_out, drain_out, notification_count_out, cleanup_out, notification_stats_out, QueuesReply}
 use Rattle.revocation_calls.specs.Calls.{revoke_out, revoke_capability_out, revoke_held_out, revoke_batch_out}
 use Rattle.revocation_reads.specs.Calls.{is_revoked_out, epoch_out, descendants, descendants_out}
 use Rattle.revocation_laws.proofs.laws.Ways.{Own, own_not, revoking_own, revoking_token_own, each_done, held_by_cases}

@@ -1,7 +1,7 @@
 -- `get_derivation_tree` given 0: the ids of all descendants, each once, parents before their children, in front of the area.
 use Rattle.std.proofs.Common.{List, [], ◌↔◌, ◌≢◌, ◌⊎◌, inl, inr, ◌≡◌, refl, sym, ap, ◌∙◌, ℕ, zero, suc, ◌+◌, ◌≤◌, ◌<◌, arith, lt-ltb, le-ltb, length, get_or, drop, length-drop, get_or-drop}
 use Rattle.answers.specs.Number.{number_of}
-use Rattle.answers.specs.declared.Answer.TheVariants.{Done}
+use Rattle.answers.specs.Answer.{Done}
 use Rattle.base.specs.Members.{In, Once}
 use Rattle.base.specs.Written.{written}
 use Rattle.registry.specs.Children.{ids_at}

@@ -1,14 +1,12 @@
 -- What refusals leave: a refusal's value is 0 and it changes nothing, not even the lent area, but that the lookup of a held revoke stays
 -- counted. And an id that is revoked already: 0, nothing changes.
 use Rattle.std.proofs.Common.{true, List, ◌≢◌, ◌≡◌, refl, ap, ◌∙◌, ℕ, ◌≤◌, ◌<◌, arith, length, Some}
-use Rattle.answers.specs.declared.Answer.{Answer}
-use Rattle.answers.specs.declared.Answer.TheVariants.{Done, InvalidCapability, BadField, LogFull, PidTableFull, BadWorld}
+use Rattle.answers.specs.Answer.{Answer, Done, InvalidCapability, BadField, LogFull, PidTableFull, BadWorld}
 use Rattle.registry.specs.Words.{revoked}
 use Rattle.revocation.specs.Reason.{reason_of, name_of}
 use Rattle.space.specs.Lookup.{looked_up}
-use Rattle.steps.specs.Replies.{Left, WithArea, replied, done, refusal, refuse, into_area}
+use Rattle.steps.specs.Replies.{Left, WithArea, replied, done, refusal, refuse, into_area, Reply}
 use Rattle.steps.specs.Steps.{space_of, lookup_step, place_in}
-use Rattle.steps.specs.declared.Reply.{Reply}
 use Rattle.base.specs.Cases.{either}
 use Rattle.steps.proofs.laws.Entered.{world_by_cases}
 use Rattle.steps.proofs.laws.Listed.{into_by_cases}

@@ -2,16 +2,15 @@
 -- Nothing else changes. A held revoke comes to it by way of a counted lookup.
 use Rattle.std.proofs.Common.{true, List, [], ◌∷◌, ◌↔◌, ◌≢◌, ◌⊎◌, inl, inr, ⊎_elim, ◌≡◌, ap, ℕ, ◌+◌, ◌%◌, ◌^◌, ◌≤◌, ◌<◌, arith, length, get_or, take}
 use Rattle.answers.specs.Number.{number_of}
-use Rattle.answers.specs.declared.Answer.TheVariants.{Done}
+use Rattle.answers.specs.Answer.{Done}
 use Rattle.base.specs.Distinct.{Differ}
 use Rattle.base.specs.Members.{in_one}
 use Rattle.revocation.specs.Log.{pair_of, log_has}
 use Rattle.revocation.specs.LogLaws.{take_appended, has_joined}
 use Rattle.revocation_steps.specs.Revocation.{log_step}
 use Rattle.revocation_steps.proofs.laws.LogSteps.{PairsJoined, join_step}
-use Rattle.steps.specs.Replies.{Left}
+use Rattle.steps.specs.Replies.{Left, Reply}
 use Rattle.steps.specs.Steps.{space_of, lookup_step, place_in, add_step}
-use Rattle.steps.specs.declared.Reply.{Reply}
 use Rattle.steps.proofs.laws.Kept.{Kept}
 use Rattle.steps.proofs.laws.SpaceSteps.{lookup_step_kept}
 use Rattle.token.specs.Token.{id_of, generation_of}

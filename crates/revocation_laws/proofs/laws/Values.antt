@@ -1,11 +1,10 @@
 -- The calls of revocation that only read and list nothing: a refusal's value is 0. Unchanged.antt says it of the others.
 use Rattle.std.proofs.Common.{List, ◌≢◌, ◌≡◌, refl, ℕ}
-use Rattle.answers.specs.declared.Answer.TheVariants.{Done}
+use Rattle.answers.specs.Answer.{Done}
 use Rattle.steps.specs.Replies.{refusal}
 use Rattle.steps.proofs.laws.Cases.{NoValue}
 use Rattle.steps.proofs.laws.Entered.{world_by_cases}
-use Rattle.notification_calls.specs.Calls.{notification_count_out, no_queues, notification_stats_out}
-use Rattle.notification_calls.specs.declared.QueuesReply.{QueuesReply}
+use Rattle.notification_calls.specs.Calls.{notification_count_out, no_queues, notification_stats_out, QueuesReply}
 use Rattle.revocation_reads.specs.Calls.{is_revoked_out, epoch_out}
 
 module _ (mem : List ℕ) where

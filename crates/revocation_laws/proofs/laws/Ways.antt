@@ -2,15 +2,13 @@
 use Rattle.std.proofs.Common.{true, false, not, List, [], ◌∷◌, ◌≢◌, ◌⊎◌, inl, inr, ⊎_elim, ◌≡◌, refl, sym, ap, ◌∙◌, ℕ, ◌+◌, ◌≤◌, ◌<◌, arith, le-ltb, eqb, length, Option, None, Some}
 use Rattle.std.proofs.lemmas.Bool.{not-true, not-false}
 use Rattle.answers.specs.Number.{number_of}
-use Rattle.answers.specs.declared.Answer.{Answer}
-use Rattle.answers.specs.declared.Answer.TheVariants.{Done, InvalidCapability, InsufficientRights, NotFound, BadSpace, BadField, BadWorld}
+use Rattle.answers.specs.Answer.{Answer, Done, InvalidCapability, InsufficientRights, NotFound, BadSpace, BadField, BadWorld}
 use Rattle.base.specs.Below.{one}
 use Rattle.base.specs.Choose.{when_no}
 use Rattle.space.specs.Lookup.{looked_up}
 use Rattle.space.specs.declared.LookedUp.{LookedUp}
-use Rattle.steps.specs.Replies.{Left, replied, refuse}
+use Rattle.steps.specs.Replies.{Left, replied, refuse, Reply}
 use Rattle.steps.specs.Steps.{space_of, lookup_step, place_in}
-use Rattle.steps.specs.declared.Reply.{Reply}
 use Rattle.base.specs.Cases.{when_by_cases, when_below, unless_below}
 use Rattle.steps.proofs.laws.Entered.{world_by_cases, space_by_cases, space_called}
 use Rattle.table.specs.declared.CapabilityEntry.{CapabilityEntry}

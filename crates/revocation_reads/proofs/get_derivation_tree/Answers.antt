@@ -1,7 +1,7 @@
 -- Entered, an id too large is refused; those under the id's place are listed, and none where the id has no place.
 use Rattle.std.proofs.Common.{List, [], ◌≡◌, refl, sym, ap, ◌∙◌, ℕ, ◌^◌, ◌<◌, ◌≤◌, arith, le-leb, le-ltb, length}
 use Rattle.std.proofs.lemmas.Bool.{lt-leb}
-use Rattle.answers.specs.declared.Answer.TheVariants.{BadField}
+use Rattle.answers.specs.Answer.{BadField}
 use Rattle.base.specs.Choose.{when_yes, when_no}
 use Rattle.base.specs.Written.{written}
 use Rattle.steps.proofs.Entering.{world_refusal, world_call, world_ready, world_sound}

@@ -1,7 +1,7 @@
 -- The places under r are all of its descent but the first, r itself: where the area is long enough, their ids are written to it.
 use Rattle.std.proofs.Common.{rules, List, [], ◌∷◌, ◌≡◌, refl, sym, ap, ◌∙◌, ℕ, zero, suc, ◌-◌, ◌<◌, ◌≤◌, arith, lt-ltb, length, take, drop, length-drop, length-take-le}
 use Rattle.std.proofs.Math.Seq.{take-nil}
-use Rattle.answers.specs.declared.Answer.TheVariants.{BadField}
+use Rattle.answers.specs.Answer.{BadField}
 use Rattle.base.specs.Written.{written}
 use Rattle.registry.specs.Children.{ids_at}
 use Rattle.registry.specs.ChildrenLaws.{ids_at-length}

@@ -1,6 +1,6 @@
 -- A number that is no reason's is refused, then an area too short for its name; else the name is written to it.
 use Rattle.std.proofs.Common.{List, ◌≡◌, refl, sym, ap, ◌∙◌, ℕ, ◌<◌, ◌≤◌, lt-ltb, le-ltb, length}
-use Rattle.answers.specs.declared.Answer.TheVariants.{BadField}
+use Rattle.answers.specs.Answer.{BadField}
 use Rattle.base.specs.Choose.{when_yes, when_no}
 use Rattle.base.specs.Written.{written}
 use Rattle.revocation.specs.Reason.{reason_of, name_of}

@@ -3,9 +3,8 @@ use Rattle.std.proofs.Common.{Bool, true, false, List, ◌↔◌, ◌≡◌, ref
 use Rattle.base.specs.Below.{one}
 use Rattle.base.specs.Exactly.{one_exactly}
 use Rattle.space.specs.Lookup.{looked_up}
-use Rattle.steps.specs.Replies.{Left}
+use Rattle.steps.specs.Replies.{Left, Reply}
 use Rattle.steps.specs.Steps.{space_of}
-use Rattle.steps.specs.declared.Reply.{Reply}
 use Rattle.steps.proofs.laws.Entered.{space_by_cases}
 use Rattle.table.specs.declared.CapabilityEntry.{CapabilityEntry}
 use Rattle.token.specs.Rights.{holds}

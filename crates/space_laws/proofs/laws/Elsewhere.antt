@@ -1,7 +1,7 @@
 -- After a call on space s, every other space, the log, every queue and the head are as they were, and of the registry only holders differ;
 -- a call that takes an id changes recycled ids and the next id besides. This holds on every memory, whatever the answer.
 use Rattle.std.proofs.Common.{List, ℕ, ◌^◌, ◌<◌}
-use Rattle.answers.specs.declared.Answer.{Answer}
+use Rattle.answers.specs.Answer.{Answer}
 use Rattle.steps.specs.Enter.{on_space}
 use Rattle.steps.specs.Steps.{space_of, take_step, new_entry}
 use Rattle.steps.proofs.laws.SpaceSteps.{clear_step_kept}
@@ -11,8 +11,7 @@ use Rattle.world.specs.Sound.{Sound}
 use Rattle.world.specs.declared.Numbers.{Numbers}
 use Rattle.space_calls.specs.Calls.{insert_call_out, remove_out, increment_out, clear_out, revoke_all_out, copy_out, alloc_out, create_out, revoke_made, revoke_out}
 use Rattle.space_reads.specs.Calls.{lookup_out, lookup_entry_out, check_rights_out}
-use Rattle.steps.specs.Replies.{Left}
-use Rattle.steps.specs.declared.Reply.{Reply}
+use Rattle.steps.specs.Replies.{Left, Reply}
 use Rattle.base.specs.Cases.{unless_below}
 use Rattle.steps.proofs.laws.Entered.{world_by_cases, space_by_cases}
 use Rattle.steps.proofs.laws.OnlyIds.{OnlyIds, only_no_id, take_only_ids}

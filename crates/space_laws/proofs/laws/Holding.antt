@@ -5,8 +5,7 @@ use Rattle.std.proofs.Math.Decide.{ℕ_discrete}
 use Rattle.std.proofs.Math.Logic.{by_cases}
 use Rattle.std.proofs.Math.Logic.Iff
 use Rattle.answers.specs.Number.{number_of}
-use Rattle.answers.specs.declared.Answer.{Answer}
-use Rattle.answers.specs.declared.Answer.TheVariants.{Done}
+use Rattle.answers.specs.Answer.{Answer, Done}
 use Rattle.space.specs.Change.{insert_out, removed_token, next_generation}
 use Rattle.space.specs.Lookup.{looked_up, counted}
 use Rattle.space.specs.Sound.{SpaceOf}
@@ -27,10 +26,8 @@ use Rattle.world.specs.Sound.{Sound}
 use Rattle.world.specs.declared.Numbers.{Numbers}
 use Rattle.space_calls.specs.Calls.{insert_call_out, remove_out, increment_out, clear_out, revoke_all_out, copy_out, alloc_out, create_out, revoke_made, revoke_out}
 use Rattle.space_reads.specs.Calls.{lookup_out, lookup_entry_out, check_rights_out}
-use Rattle.steps.specs.Replies.{Left}
-use Rattle.space_reads.specs.Replies.{whole_entry, entry_reply}
-use Rattle.space_reads.specs.declared.EntryReply.{EntryReply}
-use Rattle.steps.specs.declared.Reply.{Reply}
+use Rattle.steps.specs.Replies.{Left, Reply}
+use Rattle.space_reads.specs.Replies.{whole_entry, entry_reply, EntryReply}
 use Rattle.space_laws.proofs.laws.Elsewhere.{clear_only, revoke_all_only, copy_only}
 use Rattle.steps.proofs.laws.Entered.{world_by_cases, space_by_cases, space_called, done_made}
 use Rattle.steps.proofs.laws.OnlyIds.{take_only_ids}

@@ -3,7 +3,7 @@
 use Rattle.std.proofs.Common.{List, ◌≡◌, sym, ap, subst, ◌∙◌, ℕ, ◌+◌, ◌%◌, ◌^◌, ◌<◌, arith, None, Some}
 use Rattle.std.proofs.Math.Logic.Iff
 use Rattle.answers.specs.Number.{number_of}
-use Rattle.answers.specs.declared.Answer.TheVariants.{Done}
+use Rattle.answers.specs.Answer.{Done}
 use Rattle.space.specs.Change.{cleared, next_generation}
 use Rattle.space.specs.Lookup.{up, exactly, looked_up, counted}
 use Rattle.space.specs.Sound.{SpaceOf}
@@ -22,10 +22,9 @@ use Rattle.world.specs.Sound.{SoundAt, Sound}
 use Rattle.world.specs.declared.Numbers.{Numbers}
 use Rattle.space_calls.specs.Calls.{clear_out, revoke_all_out, copy_out}
 use Rattle.space_reads.specs.Calls.{facts_out, fact_out, used_out, capacity_out, lookup_out}
-use Rattle.steps.specs.Replies.{Left, replied, done}
+use Rattle.steps.specs.Replies.{Left, replied, done, Reply}
 use Rattle.steps.specs.declared.Facts.{Facts}
-use Rattle.steps.specs.declared.Reply.{Reply}
-use Rattle.space_reads.specs.declared.FactsReply.{FactsReply}
+use Rattle.space_reads.specs.Replies.{FactsReply}
 use Rattle.base.specs.Cases.{unless_below}
 use Rattle.steps.proofs.laws.Entered.{done_made, space_called}
 use Rattle.steps.proofs.laws.OnlySpace.{lookup_in_space, next_in_space, clear_in_space, copy_in_space}

@@ -1,15 +1,12 @@
 -- 26 is answered exactly on memory that is not sound, 20 exactly on a sound one for a space number of S or more.
 use Rattle.std.proofs.Common.{List, ◌↔◌, ◌≢◌, ◌⊎◌, inl, inr, ⊎_elim, ◌≡◌, refl, ℕ, ◌≤◌, arith, Option, None, Some}
 use Rattle.answers.specs.Number.{number_of}
-use Rattle.answers.specs.declared.Answer.{Answer}
-use Rattle.answers.specs.declared.Answer.TheVariants.{Done, AlreadyExists, NotFound, IdExhausted, SpaceQuota, SpaceIds, BadSpace, BadField, BadWorld}
+use Rattle.answers.specs.Answer.{Answer, Done, AlreadyExists, NotFound, IdExhausted, SpaceQuota, SpaceIds, BadSpace, BadField, BadWorld}
 use Rattle.space.specs.Change.{InsertOut, insert_out}
 use Rattle.space.specs.Lookup.{looked_up, got_entry}
 use Rattle.space.specs.Words.{table_of, slot_words}
 use Rattle.space.proofs.laws.Insert.{insert_by_cases}
 use Rattle.steps.specs.Steps.{space_of, taken_id, new_entry}
-use Rattle.steps.specs.declared.Taken.{Taken}
-use Rattle.steps.specs.declared.Taken.TheVariants.{Id, Exhausted}
 use Rattle.table.specs.Copy.{nth_of}
 use Rattle.table.specs.Insert.{live_entries}
 use Rattle.table.specs.declared.CapabilityEntry.{CapabilityEntry}
@@ -18,11 +15,8 @@ use Rattle.world.specs.Sound.{Sound}
 use Rattle.world.specs.declared.Numbers.{Numbers}
 use Rattle.space_calls.specs.Calls.{insert_call_out, remove_out, increment_out, clear_out, revoke_all_out, copy_out, taken_reply, alloc_out, create_out, revoke_made, revoke_out}
 use Rattle.space_reads.specs.Calls.{facts_out, lookup_out, lookup_entry_out, check_rights_out, get_entry_out, nth_entry_out}
-use Rattle.steps.specs.Replies.{Left, refuse}
-use Rattle.space_reads.specs.Replies.{found_reply, held_reply, entry_reply, nth_reply}
-use Rattle.space_reads.specs.declared.EntryReply.{EntryReply}
-use Rattle.steps.specs.declared.Reply.{Reply}
-use Rattle.space_reads.specs.declared.FactsReply.{FactsReply}
+use Rattle.steps.specs.Replies.{Left, refuse, Reply}
+use Rattle.space_reads.specs.Replies.{found_reply, held_reply, entry_reply, nth_reply, EntryReply, FactsReply}
 use Rattle.base.specs.Cases.{either, unless_below}
 use Rattle.steps.proofs.laws.Cases.{answer_of, given, not_given}
 use Rattle.steps.proofs.laws.Entered.{space_by_cases}
@@ -52,9 +46,9 @@ inner_insert sp e =
     insert_by_cases sp e (λ (o : InsertOut). Inner o.answer)
     (λ over. inner SpaceQuota refl refl) (λ i under there. inner AlreadyExists refl refl) (λ a. inner_0)
 
-inner_taken : (t : Taken) → Inner (taken_reply t).answer
-inner_taken (Id id) = inner_0
-inner_taken Exhausted = inner IdExhausted refl refl
+inner_taken : (t : Option ℕ) → Inner (taken_reply t).answer
+inner_taken (Some id) = inner_0
+inner_taken None = inner IdExhausted refl refl
 
 -- ---- call by call
 

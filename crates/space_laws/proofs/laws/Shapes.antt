@@ -1,16 +1,14 @@
 -- When an answer is given, by the shape of the reply: 0 or 8 of what is looked for, 21 before them for an id that does not fit, 11, 7 or 0
 -- of an insert, 12 before them of a space's create. Told.antt says it of each call.
-use Rattle.std.proofs.Common.{List, ◌↔◌, ◌≢◌, ◌≡◌, refl, sym, ap, subst, ◌∙◌, ℕ, ◌^◌, ◌≤◌, ◌<◌, arith}
+use Rattle.std.proofs.Common.{List, ◌↔◌, ◌≢◌, ◌≡◌, refl, sym, ap, subst, ◌∙◌, ℕ, ◌^◌, ◌≤◌, ◌<◌, arith, Option, Some, None}
 use Rattle.answers.specs.Number.{number_of}
-use Rattle.answers.specs.declared.Answer.{Answer}
-use Rattle.answers.specs.declared.Answer.TheVariants.{Done, AlreadyExists, NotFound, SpaceQuota, SpaceIds, BadSpace, BadField, BadWorld}
+use Rattle.answers.specs.Answer.{Answer, Done, AlreadyExists, NotFound, SpaceQuota, SpaceIds, BadSpace, BadField, BadWorld}
 use Rattle.space.specs.Change.{InsertOut, insert_out}
 use Rattle.space.specs.Sound.{SpaceOf}
 use Rattle.space.specs.Words.{quota_of, table_of}
 use Rattle.space.proofs.laws.Insert.{insert_by_cases}
 use Rattle.steps.specs.Enter.{on_space}
 use Rattle.steps.specs.Steps.{taken_id}
-use Rattle.steps.specs.declared.Taken.TheVariants.{Id, Exhausted}
 use Rattle.steps.proofs.laws.Cases.{given, not_given}
 use Rattle.steps.proofs.laws.Entered.{space_by_cases}
 use Rattle.steps.proofs.laws.Exhausted.{exhausted_exactly}
@@ -28,7 +26,7 @@ On mem s case = Sound mem × ((s < (numbers_of mem).spaces) × case)
 
 -- An id is left, and the case holds of the one that is taken.
 abbrev pub Taking : List ℕ → (ℕ → Type 0) → Type 0
-Taking mem case = (id : ℕ) × ((taken_id (numbers_of mem) mem ≡ Id id) × case id)
+Taking mem case = (id : ℕ) × ((taken_id (numbers_of mem) mem ≡ Some id) × case id)
 
 -- ---- what all calls of a space share: an answer of the call's own is given exactly where the call is made and gives it
 
@@ -123,7 +121,7 @@ pub record Creates (mem sp : List ℕ) (answer : Answer) : Type 0 where
   pub accepted : (answer ≡ Done) ↔ Taking mem (λ id. ((table_of sp).full < quota_of sp) × (¬ HasId sp id))
 
 module _ (mem sp : List ℕ) where
-  pub creates_none : taken_id (numbers_of mem) mem ≡ Exhausted → Creates mem sp SpaceIds
+  pub creates_none : taken_id (numbers_of mem) mem ≡ None → Creates mem sp SpaceIds
   creates_none none = record {
     exhausted = given refl ((exhausted_exactly (numbers_of mem) mem).0 none);
     at_quota = not_given SpaceIds SpaceQuota (λ e. omega (arith, e)) left;
@@ -134,7 +132,7 @@ module _ (mem sp : List ℕ) where
       left : {case : ℕ → Type 0} → Taking mem case → ⊥
       left (id, (is, c)) = let z : ◌≡◌ {A = ℕ} 0 1 = cc in omega arith
 
-  module _ (id : ℕ) (is : taken_id (numbers_of mem) mem ≡ Id id) where
+  module _ (id : ℕ) (is : taken_id (numbers_of mem) mem ≡ Some id) where
     taking : {P : Type 0} {case : ℕ → Type 0} → P ↔ case id → P ↔ Taking mem case
     taking {P} {case} exactly =
         (λ p. (id, (is, exactly.0 p)), λ (other, (same, c)). exactly.1 (subst case (let i : other ≡ id = cc in i) c))

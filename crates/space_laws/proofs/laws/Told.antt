@@ -1,18 +1,14 @@
 -- When each answer of a call of a space is given, once the memory is sound and the space is there (Refused.antt says 26 and 20): 21, 11, 7,
 -- 8, 9, 12 and 0, each exactly in its stated case. `used` and `total_caps` are the table's `full`, its live entries.
 use Rattle.std.proofs.Common.{List, ◌↔◌, ◌≡◌, refl, ℕ, ◌%◌, ◌^◌, ◌≤◌, ◌<◌, arith, leb, Option, None, Some}
-use Rattle.answers.specs.declared.Answer.{Answer}
-use Rattle.answers.specs.declared.Answer.TheVariants.{Done, AlreadyExists, NotFound, IdExhausted, SpaceQuota, SpaceIds, BadSpace, BadField, BadWorld}
+use Rattle.answers.specs.Answer.{Answer, Done, AlreadyExists, NotFound, IdExhausted, SpaceQuota, SpaceIds, BadSpace, BadField, BadWorld}
 use Rattle.base.specs.Choose.{when}
 use Rattle.space.specs.Change.{insert_out}
 use Rattle.space.specs.Lookup.{looked_up, got_entry}
 use Rattle.space.specs.Sound.{SpaceOf}
 use Rattle.space.specs.Words.{quota_of, generation_of, table_of, slot_words}
-use Rattle.steps.specs.Replies.{Left, refuse}
+use Rattle.steps.specs.Replies.{Left, refuse, Reply}
 use Rattle.steps.specs.Steps.{space_of, taken_id, take_step, new_entry}
-use Rattle.steps.specs.declared.Reply.{Reply}
-use Rattle.steps.specs.declared.Taken.{Taken}
-use Rattle.steps.specs.declared.Taken.TheVariants.{Id, Exhausted}
 use Rattle.base.specs.Cases.{when_from, unless_below}
 use Rattle.steps.proofs.laws.Cases.{answer_of, given, not_given}
 use Rattle.steps.proofs.laws.Entered.{world_by_cases}
@@ -31,9 +27,7 @@ use Rattle.world.specs.Sound.{Sound}
 use Rattle.world.specs.declared.Numbers.{Numbers}
 use Rattle.space_calls.specs.Calls.{insert_call_out, remove_out, increment_out, clear_out, revoke_all_out, copy_out, taken_reply, alloc_out, create_taken, create_out, revoke_made, revoke_out}
 use Rattle.space_reads.specs.Calls.{facts_out, lookup_out, lookup_entry_out, check_rights_out, get_entry_out, nth_entry_out}
-use Rattle.space_reads.specs.Replies.{found_reply, held_reply, no_entry, entry_reply, nth_reply}
-use Rattle.space_reads.specs.declared.EntryReply.{EntryReply}
-use Rattle.space_reads.specs.declared.FactsReply.{FactsReply}
+use Rattle.space_reads.specs.Replies.{found_reply, held_reply, no_entry, entry_reply, nth_reply, EntryReply, FactsReply}
 use Rattle.space_laws.proofs.laws.Finding.{HasToken, HasId, token_by_cases, id_by_cases, nth_by_cases}
 use Rattle.space_laws.proofs.laws.Shapes.{On, Taking, told_on, Finds, finds_it, finds_none, FindsBelow, finds_over, below_it, below_none, Inserts, inserts, Creates, creates_none, creates_of}
 use Rattle.space_laws.proofs.laws.Ways.{own_token, made_by_cases, created_by_cases}
@@ -288,16 +282,16 @@ module _ (mem : List ℕ) (s : ℕ) where
 -- ---- `alloc_cap_id`, without a space
 
 module _ (mem : List ℕ) where
-  abbrev taken : Taken
+  abbrev taken : Option ℕ
   taken = taken_id (numbers_of mem) mem
 
-  exhausted_said : (t : Taken) → ((taken_reply t).answer ≡ IdExhausted) ↔ (t ≡ Exhausted)
-  exhausted_said (Id id) = not_given Done IdExhausted (λ e. omega (arith, e)) (λ e. let z : ◌≡◌ {A = ℕ} 0 1 = cc in omega arith)
-  exhausted_said Exhausted = given refl refl
+  exhausted_said : (t : Option ℕ) → ((taken_reply t).answer ≡ IdExhausted) ↔ (t ≡ None)
+  exhausted_said (Some id) = not_given Done IdExhausted (λ e. omega (arith, e)) (λ e. let z : ◌≡◌ {A = ℕ} 0 1 = cc in omega arith)
+  exhausted_said None = given refl refl
 
-  id_said : (t : Taken) → ((taken_reply t).answer ≡ Done) ↔ ((id : ℕ) × (t ≡ Id id))
-  id_said (Id id) = given refl (id, refl)
-  id_said Exhausted = not_given IdExhausted Done (λ e. omega (arith, e)) (λ (id, e). let z : ◌≡◌ {A = ℕ} 0 1 = cc in omega arith)
+  id_said : (t : Option ℕ) → ((taken_reply t).answer ≡ Done) ↔ ((id : ℕ) × (t ≡ Some id))
+  id_said (Some id) = given refl (id, refl)
+  id_said None = not_given IdExhausted Done (λ e. omega (arith, e)) (λ (id, e). let z : ◌≡◌ {A = ℕ} 0 1 = cc in omega arith)
 
   pub alloc_told_9 : ((alloc_out mem).reply.answer ≡ IdExhausted) ↔ (Sound mem × ((recycled_of mem ≤ 0) × (2 ^ 48 ≤ next_of mem)))
   unfolding alloc_out
@@ -310,9 +304,9 @@ module _ (mem : List ℕ) where
       let (to, from) = exhausted_exactly (numbers_of mem) mem in
       (λ e. (sound, to ((exhausted_said taken).0 e)), λ (again, none). (exhausted_said taken).1 (from none)))
 
-  pub alloc_told_0 : ((alloc_out mem).reply.answer ≡ Done) ↔ (Sound mem × ((id : ℕ) × (taken_id (numbers_of mem) mem ≡ Id id)))
+  pub alloc_told_0 : ((alloc_out mem).reply.answer ≡ Done) ↔ (Sound mem × ((id : ℕ) × (taken_id (numbers_of mem) mem ≡ Some id)))
   unfolding alloc_out
   alloc_told_0 =
-      world_by_cases (λ (out : Left Reply). (answer_of out ≡ Done) ↔ (Sound mem × ((id : ℕ) × (taken ≡ Id id)))) (refuse mem) mem _
+      world_by_cases (λ (out : Left Reply). (answer_of out ≡ Done) ↔ (Sound mem × ((id : ℕ) × (taken ≡ Some id)))) (refuse mem) mem _
       (λ bad. not_given BadWorld Done (λ e. omega (arith, e)) (λ (sound, some). bad sound))
       (λ sound. (λ e. (sound, (id_said taken).0 e), λ (again, some). (id_said taken).1 some))

@@ -2,8 +2,7 @@
 -- the same, and an id that a space's create took is lost where its entry is refused (7, 11).
 use Rattle.std.proofs.Common.{List, ◌≢◌, ◌≡◌, refl, sym, ap, ◌∙◌, ℕ, ◌<◌, arith, Option, None, Some}
 use Rattle.answers.specs.Number.{number_of}
-use Rattle.answers.specs.declared.Answer.{Answer}
-use Rattle.answers.specs.declared.Answer.TheVariants.{Done, SpaceIds}
+use Rattle.answers.specs.Answer.{Answer, Done, SpaceIds}
 use Rattle.base.specs.Part.{on_part_same}
 use Rattle.space.specs.Change.{InsertOut, insert_out, removed_found, removed_token}
 use Rattle.space.specs.Lookup.{exactly, looked_up}
@@ -22,9 +21,8 @@ use Rattle.world.specs.Sound.{Sound}
 use Rattle.world.specs.declared.Numbers.{Numbers}
 use Rattle.space_calls.specs.Calls.{insert_call_out, remove_out, increment_out, clear_out, revoke_all_out, copy_out, taken_reply, alloc_out, create_out, revoke_made, revoke_out}
 use Rattle.space_reads.specs.Calls.{lookup_out, lookup_entry_out, check_rights_out}
-use Rattle.steps.specs.Replies.{Left, refuse}
+use Rattle.steps.specs.Replies.{Left, refuse, Reply}
 use Rattle.space_reads.specs.Replies.{found_reply}
-use Rattle.steps.specs.declared.Reply.{Reply}
 use Rattle.steps.proofs.laws.Entered.{world_by_cases, space_by_cases}
 use Rattle.space_laws.proofs.laws.Ways.{own_token, made_by_cases, create_by_cases}
 

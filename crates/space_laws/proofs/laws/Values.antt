@@ -1,18 +1,14 @@
 -- A refusal's value is 0: where the answer of a call of a space is not 0, a reply has the value 0, a reply with an entry no entry, and all
 -- that a space says of itself is zeros. What is added, the visits of a search that found nothing, is answered all the same.
 use Rattle.std.proofs.Common.{List, ◌≢◌, ◌≡◌, refl, ℕ, Option, None, Some}
-use Rattle.answers.specs.declared.Answer.{Answer}
-use Rattle.answers.specs.declared.Answer.TheVariants.{Done, BadSpace, BadWorld}
+use Rattle.answers.specs.Answer.{Answer, Done, BadSpace, BadWorld}
 use Rattle.space.specs.Change.{InsertOut, insert_out}
 use Rattle.space.specs.Lookup.{looked_up, got_entry}
 use Rattle.space.specs.Words.{table_of, slot_words}
 use Rattle.space.proofs.laws.Insert.{insert_by_cases}
 use Rattle.steps.specs.Enter.{on_space}
-use Rattle.steps.specs.Replies.{Left, done, refuse}
+use Rattle.steps.specs.Replies.{Left, done, refuse, Reply}
 use Rattle.steps.specs.Steps.{space_of, taken_id, new_entry, insert_reply}
-use Rattle.steps.specs.declared.Reply.{Reply}
-use Rattle.steps.specs.declared.Taken.{Taken}
-use Rattle.steps.specs.declared.Taken.TheVariants.{Id, Exhausted}
 use Rattle.base.specs.Cases.{either}
 use Rattle.steps.proofs.laws.Cases.{NoValue}
 use Rattle.steps.proofs.laws.Entered.{world_by_cases, space_by_cases}
@@ -23,9 +19,7 @@ use Rattle.world.specs.Numbers.{numbers_of}
 use Rattle.world.specs.declared.Numbers.{Numbers}
 use Rattle.space_calls.specs.Calls.{insert_call_out, remove_out, increment_out, clear_out, revoke_all_out, copy_out, taken_reply, alloc_out, create_out, revoke_made, revoke_out}
 use Rattle.space_reads.specs.Calls.{facts_out, lookup_out, lookup_entry_out, check_rights_out, get_entry_out, nth_entry_out}
-use Rattle.space_reads.specs.Replies.{found_reply, held_reply, no_entry, entry_reply, nth_reply, no_facts}
-use Rattle.space_reads.specs.declared.EntryReply.{EntryReply}
-use Rattle.space_reads.specs.declared.FactsReply.{FactsReply}
+use Rattle.space_reads.specs.Replies.{found_reply, held_reply, no_entry, entry_reply, nth_reply, no_facts, EntryReply, FactsReply}
 use Rattle.space_laws.proofs.laws.Ways.{own_token, made_by_cases, create_by_cases}
 
 -- ---- a reply with an entry, and what a space says of itself
@@ -69,9 +63,9 @@ insert_none value sp e =
     insert_by_cases sp e (λ (o : InsertOut). NoValue (insert_reply value o)) (λ over not_0. refl) (λ i under there not_0. refl)
     (λ a not_0. absurd (not_0 refl))
 
-taken_none : (t : Taken) → NoValue (taken_reply t)
-taken_none (Id id) not_0 = absurd (not_0 refl)
-taken_none Exhausted not_0 = refl
+taken_none : (t : Option ℕ) → NoValue (taken_reply t)
+taken_none (Some id) not_0 = absurd (not_0 refl)
+taken_none None not_0 = refl
 
 -- ---- call by call
 

@@ -1,14 +1,11 @@
 -- The ways through the two calls that make a token of an id, the space-made create and the space revoke: what holds of each ending holds of
 -- the whole.
-use Rattle.std.proofs.Common.{List, ◌≡◌, refl, sym, subst, ℕ, ◌-◌, ◌^◌, ◌≤◌, ◌<◌, Result, Ok, Err, arith, ltb-true, ltb-false, ltb}
-use Rattle.answers.specs.declared.Answer.TheVariants.{SpaceIds, BadSpace, BadField, BadWorld}
+use Rattle.std.proofs.Common.{List, ◌≡◌, refl, sym, subst, ℕ, ◌-◌, ◌^◌, ◌≤◌, ◌<◌, Result, Ok, Err, arith, ltb-true, ltb-false, ltb, Option, Some, None}
+use Rattle.answers.specs.Answer.{SpaceIds, BadSpace, BadField, BadWorld}
 use Rattle.space.specs.Words.{generation_of}
 use Rattle.space_calls.specs.Calls.{inserting, create_made, create_taken, create_out}
-use Rattle.steps.specs.Replies.{Left, refuse}
+use Rattle.steps.specs.Replies.{Left, refuse, Reply}
 use Rattle.steps.specs.Steps.{space_of, new_entry, taken_id, take_step}
-use Rattle.steps.specs.declared.Reply.{Reply}
-use Rattle.steps.specs.declared.Taken.{Taken}
-use Rattle.steps.specs.declared.Taken.TheVariants.{Id, Exhausted}
 use Rattle.base.specs.Cases.{pick_by_cases}
 use Rattle.steps.proofs.laws.Entered.{space_by_cases}
 use Rattle.steps.proofs.laws.TakeStep.{taken_free}
@@ -48,21 +45,21 @@ module _ (mem : List ℕ) (s rights object : ℕ) (P : Left Reply → Type 0) wh
 
   -- Once it is made: no id is left, and none is taken; or the entry of the one that is taken is inserted, since a token is made of each.
   pub created_by_cases :
-      Sound mem → (taken_id d mem ≡ Exhausted → P (refuse mem SpaceIds))
-      → ((id : ℕ) → taken_id d mem ≡ Id id → P (inserting d s (own id) id after))
+      Sound mem → (taken_id d mem ≡ None → P (refuse mem SpaceIds))
+      → ((id : ℕ) → taken_id d mem ≡ Some id → P (inserting d s (own id) id after))
       → P (create_taken d s rights object after (taken_id d mem))
   created_by_cases sound none goes = go (taken_id d mem) refl
     where
-      go : (t : Taken) → taken_id d mem ≡ t → P (create_taken d s rights object after t)
-      go (Id id) is =
+      go : (t : Option ℕ) → taken_id d mem ≡ t → P (create_taken d s rights object after t)
+      go (Some id) is =
           made_by_cases (λ m. P (create_made d s rights object id after m)) (space_of d s after) id
           (λ over. absurd (omega (arith, (taken_free d mem sound id is).fits))) (λ fits. goes id is)
-      go Exhausted is = subst (λ left. P (refuse left SpaceIds)) (sym (none_taken d mem is)) (none is)
+      go None is = subst (λ left. P (refuse left SpaceIds)) (sym (none_taken d mem is)) (none is)
 
   pub create_by_cases :
       (¬ Sound mem → P (refuse mem BadWorld)) → (Sound mem → d.spaces ≤ s → P (refuse mem BadSpace))
-      → (Sound mem → s < d.spaces → taken_id d mem ≡ Exhausted → P (refuse mem SpaceIds))
-      → (Sound mem → s < d.spaces → (id : ℕ) → taken_id d mem ≡ Id id → P (inserting d s (own id) id after))
+      → (Sound mem → s < d.spaces → taken_id d mem ≡ None → P (refuse mem SpaceIds))
+      → (Sound mem → s < d.spaces → (id : ℕ) → taken_id d mem ≡ Some id → P (inserting d s (own id) id after))
       → P (create_out mem s rights object)
   unfolding create_out
   create_by_cases bad far none goes =

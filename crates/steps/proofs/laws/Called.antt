@@ -1,6 +1,6 @@
 -- What a call leaves of a sound memory, where its own steps keep it: a refusal with 26 or 20 leaves all as it is.
 use Rattle.std.proofs.Common.{ℕ, ◌<◌, List}
-use Rattle.answers.specs.declared.Answer.{Answer}
+use Rattle.answers.specs.Answer.{Answer}
 use Rattle.world.specs.Numbers.{numbers_of}
 use Rattle.world.specs.Sound.{Sound}
 use Rattle.world.specs.declared.Numbers.{Numbers}

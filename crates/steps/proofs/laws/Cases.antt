@@ -1,10 +1,8 @@
 -- A call's answer that is given exactly in its case, and a refusal's value.
 use Rattle.std.proofs.Common.{◌≡◌, ◌≢◌, ◌↔◌, ap}
 use Rattle.answers.specs.Number.{number_of}
-use Rattle.answers.specs.declared.Answer.{Answer}
-use Rattle.answers.specs.declared.Answer.TheVariants.{Done}
-use Rattle.steps.specs.Replies.{Left}
-use Rattle.steps.specs.declared.Reply.{Reply}
+use Rattle.answers.specs.Answer.{Answer, Done}
+use Rattle.steps.specs.Replies.{Left, Reply}
 
 abbrev pub answer_of : Left Reply → Answer
 answer_of out = out.reply.answer

@@ -4,8 +4,7 @@
 -- one inside the other where both are (drain_notifications). Two results that keep a contract on one input are therefore equal, in answer,
 -- memory and area.
 use Rattle.std.proofs.Common.{◌≡◌, ℕ, List, sym, ap, ◌∙◌}
-use Rattle.steps.specs.Replies.{Left, WithArea}
-use Rattle.steps.specs.declared.Reply.{Reply}
+use Rattle.steps.specs.Replies.{Left, WithArea, Reply}
 
 -- A reading call: A is the type of its answer.
 pub one_answer : {A : Type 0} (out a b : A) → a ≡ out → b ≡ out → a ≡ b

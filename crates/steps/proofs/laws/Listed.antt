@@ -1,6 +1,6 @@
 -- A list that goes to a lent area: refused where the area is too short, else written whole.
 use Rattle.std.proofs.Common.{◌≡◌, ℕ, ◌<◌, ◌≤◌, ltb, List, length, ap, ◌∙◌, le-ltb, lt-ltb}
-use Rattle.answers.specs.declared.Answer.TheVariants.{BadField}
+use Rattle.answers.specs.Answer.{BadField}
 use Rattle.base.specs.Choose.{when_yes, when_no}
 use Rattle.base.specs.Written.{written}
 use Rattle.steps.specs.Replies.{WithArea, done, refusal, into_area}

@@ -1,6 +1,6 @@
 -- The steps after which a call goes on keep what the next step asks of a memory, from that and from ranges alone, where the memory need not
 -- be sound; and what each leaves of the words of the head.
-use Rattle.std.proofs.Common.{◌≡◌, ℕ, ◌+◌, ◌-◌, ◌*◌, ◌%◌, ◌^◌, ◌<◌, ◌≤◌, Bool, true, false, eqb, ◌≢◌, List, length, get_or, set, sym, refl, ◌∙◌, arith}
+use Rattle.std.proofs.Common.{◌≡◌, ℕ, ◌+◌, ◌-◌, ◌*◌, ◌%◌, ◌^◌, ◌<◌, ◌≤◌, Bool, true, false, eqb, ◌≢◌, List, length, get_or, set, sym, refl, ◌∙◌, arith, Option, Some, None}
 use Rattle.std.proofs.Math.Decide.{ℕ_discrete}
 use Rattle.std.proofs.Math.Logic.{by_cases}
 use Rattle.answers.specs.Number.{number_of}
@@ -25,8 +25,6 @@ use Rattle.world.specs.Views.{Change, length_kept, view_same, head_kept, registr
 use Rattle.world.specs.declared.Numbers.{Numbers}
 use Rattle.steps.specs.Ready.{Ready}
 use Rattle.steps.specs.Steps.{space_of, lookup_step, hold_step, insert_step, taken_id, take_step, register_step, list_step, unregister_step, collect_step, add_step}
-use Rattle.steps.specs.declared.Taken.{Taken}
-use Rattle.steps.specs.declared.Taken.TheVariants.{Id, Exhausted}
 use Rattle.steps.proofs.ChangingEntries.{still_fits}
 use Rattle.steps.proofs.laws.RegistryChanged.{registry_in, RegistryChanged, registry_changed, word_changed, only_registry_changed}
 use Rattle.steps.proofs.laws.SpaceChanged.{other_space}
@@ -169,10 +167,10 @@ module _ (d : Numbers) (mem : List ℕ) (ready : Ready d mem) (s : ℕ) (valid :
 
 -- An id was taken, or none: the words of the head stay but for the next id and the count of recycled ids. Where one was taken, there is
 -- room to recycle it.
-pub record Takes (d : Numbers) (mem : List ℕ) (taken : Taken) (after : List ℕ) : Type 0 where
+pub record Takes (d : Numbers) (mem : List ℕ) (taken : Option ℕ) (after : List ℕ) : Type 0 where
   pub ready : Ready d after
   pub others : (j : ℕ) → j < 16 → j ≢ 5 → j ≢ 12 → get_or after j 0 ≡ get_or mem j 0
-  pub room : (id : ℕ) → taken ≡ Id id → recycled_of after ≤ d.places
+  pub room : (id : ℕ) → taken ≡ Some id → recycled_of after ≤ d.places
 
 module _ (d : Numbers) (mem : List ℕ) (ready : Ready d mem) where
   open registry_in d mem use {rg, n, m}
@@ -180,7 +178,7 @@ module _ (d : Numbers) (mem : List ℕ) (ready : Ready d mem) where
   long : 5 * d.places + 1 ≤ length rg
   long = registry_words d mem ready.fits.long_enough
 
-  again_taken : 0 < m → Takes d mem (Id (recycled d mem 0)) (set (on_region d registry (first_taken d.places m) mem) 12 (m - 1))
+  again_taken : 0 < m → Takes d mem (Some (recycled d mem 0)) (set (on_region d registry (first_taken d.places m) mem) 12 (m - 1))
   again_taken some =
       let leaves =
       registry_and_word_leaves d mem ready (first_taken d.places m) (length_taken d.places m rg some ready.recycled_fit long)
@@ -191,7 +189,7 @@ module _ (d : Numbers) (mem : List ℕ) (ready : Ready d mem) where
         room = λ id is. omega (arith, leaves.word, ready.recycled_fit);
       }
 
-  next_taken : m ≤ 0 → Takes d mem (Id (next_of mem)) (set mem 5 (next_of mem + 1))
+  next_taken : m ≤ 0 → Takes d mem (Some (next_of mem)) (set mem 5 (next_of mem + 1))
   next_taken none =
       let leaves = word_leaves d mem ready 5 (next_of mem + 1) (omega arith) (omega arith) in
       record {
@@ -200,7 +198,7 @@ module _ (d : Numbers) (mem : List ℕ) (ready : Ready d mem) where
         room = λ id is. omega (arith, leaves.others 12 (omega arith) (λ e. omega arith));
       }
 
-  none_taken : Takes d mem Exhausted mem
+  none_taken : Takes d mem None mem
   none_taken = record {
     ready = ready;
     others = λ j l not_next not_recycled. refl;
@@ -213,7 +211,7 @@ module _ (d : Numbers) (mem : List ℕ) (ready : Ready d mem) where
   pub ready_take : Ready d (take_step d mem)
   ready_take = take_leaves.ready
 
-  pub take_room : (id : ℕ) → taken_id d mem ≡ Id id → recycled_of (take_step d mem) ≤ d.places
+  pub take_room : (id : ℕ) → taken_id d mem ≡ Some id → recycled_of (take_step d mem) ≤ d.places
   take_room = take_leaves.room
 
   -- ---- the steps of the registry

@@ -1,5 +1,5 @@
 -- Taking an id keeps a sound memory, and the id taken is free: in 1..2^48-1, issued, not registered, and recycled no more.
-use Rattle.std.proofs.Common.{◌≡◌, ℕ, ◌+◌, ◌-◌, ◌*◌, ◌^◌, ◌<◌, ◌≤◌, ◌≢◌, List, length, set, sym, ap, ◌∙◌, subst, arith}
+use Rattle.std.proofs.Common.{◌≡◌, ℕ, ◌+◌, ◌-◌, ◌*◌, ◌^◌, ◌<◌, ◌≤◌, ◌≢◌, List, length, set, sym, ap, ◌∙◌, subst, arith, Option, Some, None}
 use Rattle.registry.specs.Ids.{first_taken}
 use Rattle.registry.specs.IdsLaws.{length_taken, taken_keeps, taken_unregistered, taken_smallest}
 use Rattle.registry.specs.Words.{id_at, recycled_at}
@@ -9,7 +9,6 @@ use Rattle.world.specs.Sound.{ids, recycled, spaces_with, SoundAt}
 use Rattle.world.specs.Views.{registry_words}
 use Rattle.world.specs.declared.Numbers.{Numbers}
 use Rattle.steps.specs.Steps.{taken_id, take_step}
-use Rattle.steps.specs.declared.Taken.TheVariants.{Id}
 use Rattle.steps.proofs.laws.Kept.{Kept, kept_refl, registry_rules}
 use Rattle.steps.proofs.laws.RegistryChanged.{registry_in, RegistryChanged, registry_changed, word_changed, changed_kept, recycled_changed_kept}
 use Rattle.steps.proofs.laws.Taking.{take_by_cases}
@@ -127,9 +126,9 @@ module _ (d : Numbers) (mem : List ℕ) (sound : SoundAt d mem) where
   take_step_kept =
       take_by_cases d mem (λ t after. Kept d mem after) recycled_kept (λ none. next_kept) (kept_refl d mem sound)
 
-  pub taken_free : (i : ℕ) → taken_id d mem ≡ Id i → Free d (take_step d mem) i
+  pub taken_free : (i : ℕ) → taken_id d mem ≡ Some i → Free d (take_step d mem) i
   taken_free i =
-      take_by_cases d mem (λ t after. t ≡ Id i → Free d after i)
+      take_by_cases d mem (λ t after. t ≡ Some i → Free d after i)
       (λ some e. subst (Free d _) (cc) (recycled_free some))
       (λ none more e. subst (Free d _) (cc) (next_free more))
       (λ e. let z : ◌≡◌ {A = ℕ} 0 1 = cc in absurd (omega arith))

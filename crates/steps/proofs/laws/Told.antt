@@ -3,8 +3,7 @@
 use Rattle.std.proofs.Common.{◌≡◌, ℕ, ◌<◌, ◌≤◌, false, eqb, ◌≢◌, ◌↔◌, List, sym, refl, subst, arith}
 use borrow.Author.Tests.{eqb-false}
 use Rattle.answers.specs.Number.{number_of}
-use Rattle.answers.specs.declared.Answer.{Answer}
-use Rattle.answers.specs.declared.Answer.TheVariants.{Done, BadSpace, BadWorld}
+use Rattle.answers.specs.Answer.{Answer, Done, BadSpace, BadWorld}
 use Rattle.world.specs.Numbers.{numbers_of}
 use Rattle.world.specs.Sound.{Sound}
 use Rattle.world.specs.declared.Numbers.{Numbers}

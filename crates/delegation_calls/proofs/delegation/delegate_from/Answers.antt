@@ -1,6 +1,6 @@
 -- What was looked up decides, then GRANT; the rights go on cut down to both sets' common bits.
 use Rattle.std.proofs.Common.{Bool, true, false, not, List, ◌≡◌, sym, ap, ap₂, ◌∙◌, ℕ, ◌^◌, None, Some}
-use Rattle.answers.specs.declared.Answer.TheVariants.{InvalidCapability, PermissionDenied}
+use Rattle.answers.specs.Answer.{InvalidCapability, PermissionDenied}
 use Rattle.base.specs.Choose.{when_yes, when_no}
 use Rattle.space.specs.declared.LookedUp.{LookedUp}
 use Rattle.steps.proofs.Leaving.{left_is}

@@ -2,9 +2,8 @@
 use Rattle.std.proofs.Common.{Bool, true, false, not, List, ◌≡◌, sym, ap, ◌∙◌, ℕ, ◌<◌, ◌≤◌, ltb}
 use Rattle.manager_calls.specs.Tokens.{current}
 use Rattle.base.specs.Cases.{not_below, is_below, chooses}
-use Rattle.steps.specs.Replies.{Left}
+use Rattle.steps.specs.Replies.{Left, Reply}
 use Rattle.steps.specs.Steps.{place_in}
-use Rattle.steps.specs.declared.Reply.{Reply}
 use Rattle.token.specs.Token.{id_of}
 use Rattle.world.specs.Numbers.{registered_of}
 use Rattle.world.specs.declared.Numbers.{Numbers}

@@ -1,6 +1,6 @@
 -- The children are counted, and after a collection again.
 use Rattle.std.proofs.Common.{lt-ltb, le-ltb, ltb, true, false, not, List, ◌≡◌, refl, sym, ap, ◌∙◌, arith, ℕ, ◌<◌, ◌≤◌}
-use Rattle.answers.specs.declared.Answer.TheVariants.{QuotaExceeded}
+use Rattle.answers.specs.Answer.{QuotaExceeded}
 use Rattle.base.specs.Choose.{when_yes, when_no}
 use Rattle.steps.proofs.Leaving.{left_is}
 use Rattle.steps.proofs.laws.ReadyKept.{ready_collect}

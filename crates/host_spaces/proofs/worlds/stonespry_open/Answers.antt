@@ -1,7 +1,7 @@
 -- `stonespry_open` meets its contract: the opening's own answer, as a number.
 use Rattle.std.proofs.Common.{List, ◌≡◌, ap, ℕ, rules}
 use Rattle.answers.specs.Number.{number_of}
-use Rattle.answers.specs.declared.Answer.{Answer}
+use Rattle.answers.specs.Answer.{Answer}
 use Rattle.world.specs.Open.{OpenOut}
 use Rattle.host_spaces.specs.Worlds.{numbered}
 use Rattle.host_spaces.proofs.worlds.stonespry_open.Goals as goal

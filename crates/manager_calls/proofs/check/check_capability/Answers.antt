@@ -1,7 +1,6 @@
 -- Entered, the token is looked up; its rights are tested, then whether it is valid.
 use Rattle.std.proofs.Common.{Bool, true, false, not, List, ◌≡◌, refl, sym, ap, ◌∙◌, ℕ}
-use Rattle.answers.specs.declared.Answer.{Answer}
-use Rattle.answers.specs.declared.Answer.TheVariants.{Done, InsufficientRights, CapabilityRevoked}
+use Rattle.answers.specs.Answer.{Answer, Done, InsufficientRights, CapabilityRevoked}
 use Rattle.base.specs.Choose.{when, when_yes, when_no}
 use Rattle.space.specs.Lookup.{looked_up}
 use Rattle.space.specs.declared.LookedUp.{LookedUp}
@@ -10,11 +9,10 @@ use Rattle.steps.proofs.Leaving.{left_is}
 use Rattle.steps.proofs.laws.ReadyKept.{ready_lookup}
 use Rattle.steps.specs.Enter.{entered_space}
 use Rattle.steps.specs.Ready.{Ready}
-use Rattle.steps.specs.Replies.{Left, replied}
+use Rattle.steps.specs.Replies.{Left, replied, Reply}
 use Rattle.steps.specs.Steps.{space_of, lookup_step}
 use Rattle.steps.specs.declared.Entered.{Entered}
 use Rattle.steps.specs.declared.Entered.TheVariants.{Good}
-use Rattle.steps.specs.declared.Reply.{Reply}
 use Rattle.world.specs.declared.Numbers.{Numbers}
 use Rattle.manager_calls.specs.Calls.{valid_in, grants, check_out}
 use Rattle.manager_calls.proofs.check.check_capability.Goals as goal

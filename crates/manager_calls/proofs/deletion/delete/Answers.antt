@@ -1,15 +1,14 @@
 -- Entered, the id is looked for, then the room among the recycled ids, then it leaves.
 use Rattle.std.proofs.Common.{not, List, ◌≡◌, sym, ◌∙◌, ℕ, rules, ltb}
-use Rattle.answers.specs.declared.Answer.TheVariants.{NotFound, RecycleFull}
+use Rattle.answers.specs.Answer.{NotFound, RecycleFull}
 use Rattle.base.specs.Choose.{when}
 use Rattle.steps.proofs.Entering.{world_call, world_enters}
 use Rattle.base.specs.Cases.{chooses}
 use Rattle.steps.specs.Enter.{entered_world}
-use Rattle.steps.specs.Replies.{Left, done, refuse}
+use Rattle.steps.specs.Replies.{Left, done, refuse, Reply}
 use Rattle.steps.specs.Steps.{place_in, unregister_step, recycle_step, add_step}
 use Rattle.steps.specs.declared.Entered.{Entered}
 use Rattle.steps.specs.declared.Entered.TheVariants.{Good}
-use Rattle.steps.specs.declared.Reply.{Reply}
 use Rattle.token.specs.Token.{id_of}
 use Rattle.world.specs.Numbers.{registered_of, recycled_of}
 use Rattle.world.specs.declared.Numbers.{Numbers}

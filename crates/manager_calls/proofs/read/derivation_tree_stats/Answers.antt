@@ -1,9 +1,8 @@
 -- Entered, the registry is read.
 use Rattle.std.proofs.Common.{ap₂}
-use Rattle.answers.specs.declared.Answer.TheVariants.{Done}
+use Rattle.answers.specs.Answer.{Done}
 use Rattle.steps.proofs.Entering.{world_enters}
-use Rattle.manager_calls.specs.Calls.{tree_stats_out}
-use Rattle.manager_calls.specs.declared.TreeReply.{TreeReply}
+use Rattle.manager_calls.specs.Calls.{tree_stats_out, TreeReply}
 use Rattle.manager_calls.proofs.read.derivation_tree_stats.Goals as goal
 
 pub parents-requires : goal.parents-requires

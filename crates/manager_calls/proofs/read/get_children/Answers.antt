@@ -1,6 +1,6 @@
 -- Entered, an id too large is refused, then an area too short; else the children are written to it.
 use Rattle.std.proofs.Common.{List, ◌≡◌, refl, sym, ◌∙◌, ℕ, ◌<◌, ◌≤◌, arith, length}
-use Rattle.answers.specs.declared.Answer.TheVariants.{BadField}
+use Rattle.answers.specs.Answer.{BadField}
 use Rattle.base.specs.Written.{written}
 use Rattle.registry.specs.Children.{child_ids}
 use Rattle.registry.specs.ChildrenLaws.{child_ids-length}
@@ -8,9 +8,8 @@ use Rattle.steps.proofs.Entering.{world_ready, world_enters}
 use Rattle.steps.proofs.Leaving.{area_is}
 use Rattle.base.specs.Cases.{chooses}
 use Rattle.steps.proofs.laws.Listed.{into_short, into_fits}
-use Rattle.steps.specs.Replies.{done, refusal, into_area}
+use Rattle.steps.specs.Replies.{done, refusal, into_area, Reply}
 use Rattle.steps.specs.Steps.{place_in, children_of}
-use Rattle.steps.specs.declared.Reply.{Reply}
 use Rattle.world.specs.Numbers.{registered_of}
 use Rattle.world.specs.Regions.{registry, view}
 use Rattle.world.specs.declared.Numbers.{Numbers}

@@ -1,9 +1,8 @@
 -- Entered, the queues are counted, and their notices.
 use Rattle.std.proofs.Common.{◌≡◌, ap₂, ℕ}
-use Rattle.answers.specs.declared.Answer.TheVariants.{Done}
+use Rattle.answers.specs.Answer.{Done}
 use Rattle.steps.proofs.WorldCalls.{world_calls}
-use Rattle.notification_calls.specs.Calls.{notification_stats_out}
-use Rattle.notification_calls.specs.declared.QueuesReply.{QueuesReply}
+use Rattle.notification_calls.specs.Calls.{notification_stats_out, QueuesReply}
 use Rattle.notification_calls.proofs.stats.notification_stats.Goals as goal
 
 both_counted :

@@ -1,8 +1,7 @@
 -- `request_run::calls::answer` meets its contract: what the verdict is decides what is answered.
 use Rattle.std.proofs.Common.{◌≡◌, sym, ap, ◌∙◌, List, ℕ, rules}
-use Rattle.answers.specs.declared.Answer.{Answer}
-use Rattle.steps.specs.Replies.{Left, refusal}
-use Rattle.steps.specs.declared.Reply.{Reply}
+use Rattle.answers.specs.Answer.{Answer}
+use Rattle.steps.specs.Replies.{Left, refusal, Reply}
 use Rattle.request.specs.declared.Request.{Request}
 use Rattle.request.specs.declared.Verdict.{Verdict}
 use Rattle.request.specs.declared.Verdict.TheVariants.{Good, Refused}

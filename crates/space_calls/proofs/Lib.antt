@@ -1,2 +1,0 @@
--- What the proofs of `space_calls` share.
-pub mod Making
