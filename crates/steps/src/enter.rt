@@ -10,10 +10,11 @@ use world::head::numbers;
 use world_look::is_sound;
 
 /// The numbers of a sound memory; 26 on one that is not sound.
-#[tactic(auto, using(crate::proofs::Entering::entering), unfolding(crate::specs::Enter::entered_world, base::specs::Choose::when))]
+#[tactic(auto, using(crate::proofs::Entering::head_there), unfolding(crate::specs::Enter::entered_world, base::specs::Choose::when))]
 pub fn enter_world(mem: &[u64]) -> Result<Numbers, Refusal>
     ensures value { result ≡ entered_world mem.now }
-    ensures inside { IfOk result (λ d. SoundAt d mem.now × Ready d mem.now) }
+    ensures sound { IfOk result (λ d. SoundAt d mem.now) }
+    ensures ready { IfOk result (λ d. Ready d mem.now) }
 {
     if !is_sound(mem) {
         return Err(Refusal::BadWorld);
@@ -25,7 +26,8 @@ pub fn enter_world(mem: &[u64]) -> Result<Numbers, Refusal>
 #[tactic(auto, unfolding(crate::specs::Enter::entered_space, base::specs::Choose::when))]
 pub fn enter_space(mem: &[u64], s: usize) -> Result<Numbers, Refusal>
     ensures value { result ≡ entered_space mem.now s }
-    ensures inside { IfOk result (λ d. SoundAt d mem.now × Ready d mem.now × (s < d.spaces)) }
+    ensures sound { IfOk result (λ d. SoundAt d mem.now) }
+    ensures ready { IfOk result (λ d. Ready d mem.now × (s < d.spaces)) }
 {
     let d = enter_world(mem)?;
     if d.spaces <= s {
