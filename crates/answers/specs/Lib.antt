@@ -1,3 +1,4 @@
 -- What the contracts of `answers` cite.
 pub mod Answer
 pub mod Number
+pub mod NumberLaws

@@ -1,7 +1,8 @@
 // One space of the world, lent to the functions of a space; where entries come or go, their holders counted; and the count of its strays.
 ghost use Rattle.std.specs.Prelude.{◌≡◌, ◌<◌, ◌≤◌, length, take};
+ghost use Rattle.answers.specs.Answer.{answer_of};
 ghost use Rattle.registry.specs.Children as derivation;
-ghost use Rattle.space.specs.Change.{answered, insert_out, removed_token, cleared};
+ghost use Rattle.space.specs.Change.{moved_of, insert_out, removed_token, cleared};
 ghost use Rattle.space.specs.Lookup.{looked_up, got_entry};
 ghost use Rattle.space.specs.Words.{table_of, slot_words};
 ghost use Rattle.table.specs.Copy.{nth_of};
@@ -85,7 +86,8 @@ pub fn next_generation(mem: &mut [u64], d: Numbers, s: usize)
 fn insert_entry(mem: &mut [u64], d: Numbers, s: usize, entry: CapabilityEntry) -> Result<usize, Refusal>
     requires { Ready d mem.old × (s < d.spaces) }
     ensures mem_after { mem.new ≡ on_region d (space s) (λ sp. (insert_out sp entry).words) mem.old }
-    ensures value { answered result (insert_out (space_of d s mem.old) entry).words ≡ insert_out (space_of d s mem.old) entry }
+    ensures answer_value { (answer_of result ≡ (insert_out (space_of d s mem.old) entry).answer)
+        × (moved_of result ≡ (insert_out (space_of d s mem.old) entry).moved) }
 {
     let start = space_at(d, s);
     let end = start + width(d);

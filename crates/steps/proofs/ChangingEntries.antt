@@ -1,9 +1,11 @@
 -- Entries come and go, and their holders are counted: the ways through the steps of `space_steps` that do it.
-use Rattle.std.proofs.Common.{◌≡◌, ℕ, true, false, eqb, ◌≢◌, List, length, sym, refl, ap, ◌∙◌, eq-eqb, ne_eqb, Option}
+use Rattle.std.proofs.Common.{◌≡◌, ℕ, true, false, eqb, ◌≢◌, List, length, sym, refl, ap, ◌∙◌, ne_eqb, Option, Result, Ok, Err}
 use Rattle.answers.specs.Number.{number_of}
-use Rattle.answers.specs.Answer.{Answer}
+use Rattle.answers.specs.NumberLaws.{refusal_some}
+use Rattle.answers.specs.Answer.{Done, Refuses, answer_of}
+use Rattle.answers.specs.declared.Refusal.{Refusal}
 use Rattle.base.specs.Part.{on_part_same}
-use Rattle.space.specs.Change.{insert_out, removed_token, cleared}
+use Rattle.space.specs.Change.{moved_of, insert_out, removed_token, cleared}
 use Rattle.space.specs.Copy.{copied_space}
 use Rattle.space.specs.Ids.{entry_ids}
 use Rattle.space.specs.Lookup.{looked_up}
@@ -24,41 +26,42 @@ still_fits d mem after ready same =
     record { in_range = ready.fits.in_range; long_enough = rw same ready.fits.long_enough }
 
 module _ (d : Numbers) (s : ℕ) (mem : List ℕ) where
-  module _ (e : CapabilityEntry) (between : List ℕ) (answer : Answer) (number : ℕ)
+  module _ (e : CapabilityEntry) (between : List ℕ) (r : Result ℕ Refusal)
       (came : between ≡ on_region d (space s) (λ sp. (insert_out sp e).words) mem)
-      (told : answer ≡ (insert_out (space_of d s mem) e).answer) (numbered : number ≡ number_of answer)
+      (told : answer_of r ≡ (insert_out (space_of d s mem) e).answer)
     where
-      module _ (zero : number ≡ 0) where
-        is_zero : eqb (number_of (insert_out (space_of d s mem) e).answer) 0 ≡ true
-        is_zero = rw (← told, ← numbered) (eq-eqb number 0 zero)
+      module _ (moved : ℕ) (accepts : r ≡ Ok moved) where
+        is_done : (insert_out (space_of d s mem) e).answer ≡ Done
+        is_done = sym told ∙ ap answer_of accepts
 
         pub insert_accepted : (id : ℕ) → id ≡ id_of e → (after : List ℕ) → after ≡ hold_step d (registered_of mem) id between
             → after ≡ insert_step d s e mem
         unfolding insert_step
-        insert_accepted id is after held = rw (is_zero, held, is, came)
+        insert_accepted id is after held = rw (is_done, held, is, came)
 
-        pub accepted_reply : (value moved : ℕ) → moved ≡ (insert_out (space_of d s mem) e).moved
-            → replied answer value moved ≡ insert_reply value (insert_out (space_of d s mem) e)
-        accepted_reply value moved moves = rw (is_zero, told, moves)
+        pub accepted_reply : (value : ℕ) → moved_of r ≡ (insert_out (space_of d s mem) e).moved
+            → replied Done value moved ≡ insert_reply value (insert_out (space_of d s mem) e)
+        accepted_reply value moves = rw (is_done, ← moves, accepts)
 
-      module _ (some : ¬ (number ≡ 0)) where
-        not_zero : eqb (number_of (insert_out (space_of d s mem) e).answer) 0 ≡ false
-        not_zero = rw (← told, ← numbered) (ne_eqb number 0 some)
+      module _ (refusal : Refusal) (refuses : r ≡ Err refusal) where
+        is_refusal : (insert_out (space_of d s mem) e).answer ≡ Refuses refusal
+        is_refusal = sym told ∙ ap answer_of refuses
 
         pub insert_refused : between ≡ insert_step d s e mem
         unfolding insert_step
-        insert_refused = rw (not_zero, came)
+        insert_refused = rw (is_refusal, refusal_some refusal, came)
 
-        pub refused_reply : (value moved : ℕ) → moved ≡ (insert_out (space_of d s mem) e).moved
-            → replied answer 0 moved ≡ insert_reply value (insert_out (space_of d s mem) e)
-        refused_reply value moved moves = rw (not_zero, told, moves)
+        pub refused_reply : (value : ℕ) → moved_of r ≡ (insert_out (space_of d s mem) e).moved
+            → replied (Refuses refusal) 0 0 ≡ insert_reply value (insert_out (space_of d s mem) e)
+        refused_reply value moves = rw (is_refusal, refusal_some refusal, ← moves, refuses)
 
   -- A space that refuses an entry leaves all as it is.
   pub refused_insert : (e : CapabilityEntry) → number_of (insert_out (space_of d s mem) e).answer ≢ 0 → insert_step d s e mem ≡ mem
+  unfolding insert_step
   refused_insert e some =
-      sym (insert_refused e _ _ _ refl refl refl some)
-      ∙ on_part_same (start_of d (space s)) (size_of d (space s)) (λ sp. (insert_out sp e).words) mem
-      (refused_changes_nothing (space_of d s mem) e (λ done. some (ap number_of done))).0
+      rw (ne_eqb (number_of (insert_out (space_of d s mem) e).answer) 0 some)
+      (on_part_same (start_of d (space s)) (size_of d (space s)) (λ sp. (insert_out sp e).words) mem
+      (refused_changes_nothing (space_of d s mem) e (λ done. some (ap number_of done))).0)
 
   module _ (token : ℕ) (between : List ℕ) (got : Option CapabilityEntry) (left : between ≡ on_region d (space s) (λ sp. removed_token sp token) mem)
       (told : got ≡ (looked_up (space_of d s mem) token).got)
@@ -85,3 +88,5 @@ pub copy_done :
     → after ≡ copy_step d target source mem
 unfolding copy_step
 copy_done d target source mem came left copied held after come leave copy hold release = rw (release, hold, come, leave, copy)
+
+pub ruleset inserting = (insert_accepted, accepted_reply, insert_refused, refused_reply)
