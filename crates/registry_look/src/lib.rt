@@ -16,32 +16,19 @@ use base::distinct::{Place, index, place_of};
 fn child_sound(parent: u64, child: u64) -> bool
     ensures { result ≡ both (eqb (has_list parent) 1) (leb (revoked parent) (revoked child)) }
 {
-    if parent / 2 % 2 == 1 {
-        return parent % 2 <= child % 2;
-    }
-    false
+    parent / 2 % 2 == 1 && parent % 2 <= child % 2
 }
 
 // The rules of place k.
+#[tactic(auto, unfolding(crate::specs::Look::place_test))]
 fn place_sound(rg: &[u64], places: usize, next: u64, k: usize) -> bool
     requires { (k < places) × (places ≤ 4095) × (4 * places ≤ length rg.now) }
     ensures { result ≡ place_test places next rg.now k }
 {
-    let id = rg[k];
-    if id < 1 {
-        return false;
-    }
-    if next <= id {
-        return false;
-    }
     let link = rg[3 * places + k] as usize;
-    if k < link {
-        return false;
-    }
-    if link == 0 {
-        return true;
-    }
-    child_sound(rg[2 * places + (link - 1)], rg[2 * places + k])
+    (1..next).contains(&rg[k])
+        && link <= k
+        && (link == 0 || child_sound(rg[2 * places + (link - 1)], rg[2 * places + k]))
 }
 
 // The rules of each of n places, and that no list holds over 1,024, in counters of children that are 0 yet.
@@ -50,14 +37,12 @@ fn each_place_sound(rg: &[u64], places: usize, n: usize, next: u64, counts: &mut
     requires counted { Counted (link_at places rg.now) 0 counts.old }
     ensures { result ≡ places_test places n next rg.now }
 {
-    let mut k = 0;
-    while k < n {
+    for k in 0..n {
         if !place_sound(rg, places, next, k) {
             return false;
         }
         let link = rg[3 * places + k] as usize;
         if link == 0 {
-            k += 1;
             continue;
         }
         let p = link - 1;
@@ -66,9 +51,17 @@ fn each_place_sound(rg: &[u64], places: usize, n: usize, next: u64, counts: &mut
             return false;
         }
         counts[p] = count + 1;
-        k += 1;
     }
     true
+}
+
+// The rules of n places and of their lists, with N counters.
+fn places_sound_in<const N: usize>(rg: &[u64], places: usize, n: usize, next: u64) -> bool
+    requires { (n ≤ places) × (places ≤ 4095) × (4 * places ≤ length rg.now) × (n ≤ N) × (N ≤ 4096) }
+    ensures { result ≡ places_test places n next rg.now }
+{
+    let mut counts = [0u16; N];
+    each_place_sound(rg, places, n, next, &mut counts)
 }
 
 // The rules of n places and of their lists. Few places have few counters, since to clear them all takes longer than to go along few
@@ -78,11 +71,10 @@ fn places_sound(rg: &[u64], places: usize, n: usize, next: u64) -> bool
     ensures { result ≡ places_test places n next rg.now }
 {
     if n <= 512 {
-        let mut counts = [0u16; 512];
-        return each_place_sound(rg, places, n, next, &mut counts);
+        places_sound_in::<512>(rg, places, n, next)
+    } else {
+        places_sound_in::<4096>(rg, places, n, next)
     }
-    let mut counts = [0u16; 4096];
-    each_place_sound(rg, places, n, next, &mut counts)
 }
 
 // Whether none of n ids is this one, by the index of the ids.
@@ -169,11 +161,8 @@ pub fn holders_within(rg: &[u64], places: usize, n: usize, counts: &[u16]) -> bo
     requires { (n ≤ places) × (places ≤ 4095) × (4 * places ≤ length rg.now) × (n ≤ length counts.now) }
     ensures { result ≡ within_test n (state_at places rg.now) (λ k. get_or counts.now k 0) }
 {
-    let mut k = 0;
-    while k < n {
-        if within(rg, places, counts, k) {
-            k += 1;
-        } else {
+    for k in 0..n {
+        if !within(rg, places, counts, k) {
             return false;
         }
     }

@@ -1,6 +1,6 @@
 -- `registry_look::each_place_sound` meets its contract: the places before k keep their rules, their children are counted, and no list
 -- is long yet.
-use Rattle.std.proofs.Common.{◌≡◌, true, List, ℕ, ◌-◌, ◌≤◌, length}
+use Rattle.std.proofs.Common.{◌≡◌, true, List, ℕ, ◌≤◌, length}
 use Rattle.base.specs.Below.{all}
 use Rattle.registry.specs.Words.{link_at}
 use Rattle.registry.specs.Counts.{Counted}
@@ -17,6 +17,3 @@ pub record Done (places n next : ℕ) (rg counts₀ counts : List ℕ) (k : ℕ)
 
 abbrev pub invariant-loop-k : goal.invariant-loop-k
 invariant-loop-k l = Done l.places l.n l.next l.rg l.initial.counts l.counts l.k
-
-abbrev pub decreases-loop-k : goal.decreases-loop-k
-decreases-loop-k l = l.n - l.k

@@ -10,5 +10,5 @@ loop-k-init c = search laws
 pub loop-k-preserved : goal.loop-k-preserved
 loop-k-preserved c = search laws
 
-pub returns-else-within : goal.returns-else-within
-returns-else-within c = search laws
+pub returns-then-not-within : goal.returns-then-not-within
+returns-then-not-within c = search laws
