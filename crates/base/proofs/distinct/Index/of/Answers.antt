@@ -4,12 +4,12 @@ use Rattle.base.specs.LastLaws.{last_none}
 use Rattle.base.specs.Distinct.{is_new, differ_test, all_different}
 use Rattle.base.specs.Chain.{bucket_of, Chained, chained_more}
 use Rattle.base.specs.Place.{holds, last_of}
-use Rattle.base.proofs.distinct.index.Invariants.{words, Done}
-use Rattle.base.proofs.distinct.index.Goals as goal
+use Rattle.base.proofs.distinct.Index.of.Invariants.{words, Done}
+use Rattle.base.proofs.distinct.Index.of.Goals as goal
 
 starts : (xs heads prevs : List ℕ) → Chained xs heads prevs 0 → Done xs heads prevs heads prevs 0
 starts xs heads prevs chained =
-    record { inside = omega arith; chained = chained; same_heads = refl; same_prevs = refl; new = all_none (is_new (words xs)) }
+    record { chained = chained; same_heads = refl; same_prevs = refl; new = all_none (is_new (words xs)) }
 
 module _ (xs heads₀ prevs₀ heads prevs : List ℕ) (j : ℕ) (done : Done xs heads₀ prevs₀ heads prevs j) where
   module _ (at : ℕ) (e : at ≡ last_of xs (get_or xs j 0) j) (l : j < length xs) where
@@ -20,7 +20,6 @@ module _ (xs heads₀ prevs₀ heads prevs : List ℕ) (j : ℕ) (done : Done xs
     goes : (b : ℕ) → b ≡ bucket_of (length heads) (get_or xs j 0) → b < length heads → at ≤ 0
         → Done xs heads₀ prevs₀ (set heads b (j + 1)) (set prevs j (get_or heads b 0)) (j + 1)
     goes b h u none = record {
-      inside = omega arith;
       chained = chained_more xs heads prevs j b done.chained l h u;
       same_heads = simp length-set done.same_heads;
       same_prevs = simp length-set done.same_prevs;
@@ -31,9 +30,9 @@ module _ (xs heads₀ prevs₀ heads prevs : List ℕ) (j : ℕ) (done : Done xs
     unfolding differ_test
     fails some = all_broken j (length xs) (is_new (words xs)) l (fresh ∙ ne_eqb at 0 (λ q. omega arith))
 
-  module _ (u : length xs ≤ j) where
+  module _ (inside : j ≤ length xs) (u : length xs ≤ j) where
     end : j ≡ length xs
-    end = le_antisymm done.inside u
+    end = le_antisymm inside u
 
     ends : true ≡ all_different xs
     unfolding differ_test
