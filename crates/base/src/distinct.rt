@@ -10,7 +10,7 @@ use crate::arith::wrapping_mul;
 // 2^64 over the golden ratio.
 const GOLDEN: u64 = 0x9E37_79B9_7F4A_7C15;
 
-/// Words of which no two are equal, and where each stands: the heads of the buckets and each place's link, in lent memory.
+/// Words and where each of them stands: the heads of the buckets and each place's link to the one before it, in lent memory.
 #[derive(Clone, Copy)]
 pub struct Index<'a> {
     pub words: &'a [u64],

@@ -1,5 +1,5 @@
 -- Counts by place, in a list of counters: of the children of each place, and of the entries of each place's id.
-use Rattle.std.specs.Prelude.{◌≡◌, ℕ, zero, suc, ◌+◌, ◌<◌, ◌≤◌, true, false, List, length, replicate, ◌==◌, nat_eq, nat_le, slice_index, slice_index_or, slice_set, refl}
+use Rattle.std.specs.Prelude.{◌≡◌, ℕ, zero, suc, ◌+◌, ◌<◌, ◌≤◌, true, false, List, length, replicate, ◌==◌, nat_eq, nat_le, slice_index, slice_index_or, slice_set, refl, Option, Some, None}
 use Rattle.std.proofs.Common.{sym, ap, ◌∙◌, add-zero, le_antisymm, arith, le-leb, eqb-true, eq-eqb, ne_eqb, length-set, get_or-set_same, get_or-set_other}
 use Rattle.std.proofs.Math.Dec.{eqb-suc-suc}
 use Rattle.std.proofs.Math.Decide.{ℕ_discrete, dec_lt}
@@ -13,8 +13,6 @@ use Rattle.base.specs.Distinct.{all_different}
 use Rattle.base.specs.Exactly.{same_test}
 use Rattle.base.specs.Compacted.{fold, fold_ext}
 use Rattle.base.specs.Place.{place_of, place_holds, place_is}
-use Rattle.base.specs.declared.distinct.Place.{Place}
-use Rattle.base.specs.declared.distinct.Place.TheVariants.{At, Nowhere}
 use Rattle.registry.specs.Words.{child_of, children}
 use Rattle.registry.specs.Sound.{short_test}
 
@@ -109,9 +107,9 @@ counted_done link k n counts counted l u long =
 -- ---- entries
 
 -- One more entry of the id at this place; an entry of an id that is registered nowhere counts for none.
-abbrev at_place : Place → List ℕ → List ℕ
-at_place (At k) counts = add_one k counts
-at_place Nowhere counts = counts
+abbrev at_place : Option ℕ → List ℕ → List ℕ
+at_place (Some k) counts = add_one k counts
+at_place None counts = counts
 
 unfoldable pub count_entry : List ℕ → ℕ → List ℕ → List ℕ
 count_entry ids id counts = at_place (place_of ids id) counts
@@ -123,30 +121,30 @@ pub entry_counted : (ids : List ℕ) (id : ℕ) (counts : List ℕ) (k : ℕ) �
 unfolding count_entry
 entry_counted ids id counts k different long inside = go (place_of ids id) refl
   where
-    here : slice_index_or ids k 0 ≡ id → place_of ids id ≡ At k
+    here : slice_index_or ids k 0 ≡ id → place_of ids id ≡ Some k
     here e = place_is ids id k different inside e
 
-    go : (p : Place) → place_of ids id ≡ p → slice_index (at_place p counts) k ≡ slice_index counts k + one (slice_index ids k == id)
-    go (At p) e =
+    go : (p : Option ℕ) → place_of ids id ≡ p → slice_index (at_place p counts) k ≡ slice_index counts k + one (slice_index ids k == id)
+    go (Some p) e =
         let (l, held) = place_holds ids id p e in
-        let only : (slice_index ids k ≡ id) → p ≡ k = λ h. let both_at : At p ≡ At k = sym e ∙ here h in cc in
+        let only : (slice_index ids k ≡ id) → p ≡ k = λ h. let both_at : Some p ≡ Some k = sym e ∙ here h in cc in
         let same : nat_eq p k ≡ nat_eq (slice_index ids k) id =
         same_test (p == k) (slice_index ids k == id)
         (λ h. eq-eqb (slice_index ids k) id (rw (← eqb-true p k h) held), λ h. eq-eqb p k (only (eqb-true (slice_index ids k) id h))) in
         add_one_at p k counts (omega arith) ∙ ap (λ b. slice_index counts k + one b) same
-    go Nowhere e =
+    go None e =
         let none : nat_eq (slice_index ids k) id ≡ false =
         ne_eqb (slice_index ids k) id
-        (λ h. let clash : At k ≡ Nowhere = sym (here h) ∙ e in let z : ◌≡◌ {A = ℕ} 0 1 = cc in omega arith) in
+        (λ h. let clash : Some k ≡ None = sym (here h) ∙ e in let z : ◌≡◌ {A = ℕ} 0 1 = cc in omega arith) in
         rw (none, add-zero)
 
 pub length_counted : (ids : List ℕ) (id : ℕ) (counts : List ℕ) → length (count_entry ids id counts) ≡ length counts
 unfolding count_entry
 length_counted ids id counts = go (place_of ids id)
   where
-    go : (p : Place) → length (at_place p counts) ≡ length counts
-    go (At k) = length-set counts k (slice_index counts k + 1)
-    go Nowhere = refl
+    go : (p : Option ℕ) → length (at_place p counts) ≡ length counts
+    go (Some k) = length-set counts k (slice_index counts k + 1)
+    go None = refl
 
 -- No counter is over e: after e entries, none is.
 pub record AtMost (e : ℕ) (counts : List ℕ) : Type 0 where
@@ -159,12 +157,12 @@ pub at_most_more : (e : ℕ) (ids : List ℕ) (id : ℕ) (counts : List ℕ) →
 unfolding count_entry
 at_most_more e ids id counts few = record { most = λ k. go (place_of ids id) k }
   where
-    go : (p : Place) (k : ℕ) → slice_index (at_place p counts) k ≤ e + 1
-    go (At p) k =
+    go : (p : Option ℕ) (k : ℕ) → slice_index (at_place p counts) k ≤ e + 1
+    go (Some p) k =
         by_cases (dec_lt p (length counts))
         (λ inside. omega (arith, add_one_at p k counts inside, one_le (p == k), few.most k))
         (λ outside. rw (set_out counts p (slice_index counts p + 1) (omega arith)) (omega (arith, few.most k)))
-    go Nowhere k = omega (arith, few.most k)
+    go None k = omega (arith, few.most k)
 
 -- An entry of each of the first n ids of a list.
 unfoldable pub count_entries : List ℕ → List ℕ → ℕ → List ℕ → List ℕ

@@ -1,7 +1,7 @@
 // The look over a registry: document 01's rules of it, in a few passes over what it holds.
 #![tactic(auto)]
 
-ghost use Rattle.std.specs.Prelude.{◌≡◌, true, ◌+◌, ◌*◌, ◌<◌, ◌≤◌, leb, eqb, length, get_or, take};
+ghost use Rattle.std.specs.Prelude.{◌≡◌, ◌+◌, ◌*◌, ◌<◌, ◌≤◌, leb, eqb, length, get_or, take, is_some, IfSome};
 ghost use Rattle.base.specs.Below.{all};
 ghost use Rattle.base.specs.Chain.{Chained};
 ghost use Rattle.base.specs.Choose.{both};
@@ -10,7 +10,7 @@ ghost use Rattle.registry.specs.Sound.{unregistered_id, within_test, registry_te
 ghost use Rattle.registry.specs.Counts.{Counted, count_entry, count_entries, AtMost};
 ghost use Rattle.registry_look.specs.Look.{place_test, places_test, recycled_id_test};
 
-use base::distinct::{Place, index, place_of};
+use base::distinct::Index;
 
 // Whether a child may have this state below a parent of that state: the parent has a list, and is not revoked unless the child is.
 fn child_sound(parent: u64, child: u64) -> bool
@@ -77,31 +77,18 @@ fn places_sound(rg: &[u64], places: usize, n: usize, next: u64) -> bool
     }
 }
 
-// Whether none of n ids is this one, by the index of the ids.
-fn unregistered(rg: &[u64], n: usize, heads: &[u16], prevs: &[u16], id: u64) -> bool
-    requires n_in_bounds { n ≤ length rg.now }
-    requires chained { Chained (take n rg.now) heads.now prevs.now (length (take n rg.now)) }
-    ensures { result ≡ unregistered_id n (id_at rg.now) id }
+// Whether none of these ids is this one.
+fn unregistered(ids: &Index<'_>, id: u64) -> bool
+    ensures { result ≡ unregistered_id (length ids.now.words.now) (id_at ids.now.words.now) id }
 {
-    match place_of(&rg[..n], heads, prevs, id) {
-        Place::At(_) => false,
-        Place::Nowhere => true,
-    }
+    ids.place_of(id).is_none()
 }
 
-// The rules of each of m recycled ids, by the index of the n registered ones.
-fn recycled_sound(
-    rg: &[u64],
-    places: usize,
-    n: usize,
-    m: usize,
-    next: u64,
-    heads: &[u16],
-    prevs: &[u16],
-) -> bool
-    requires n_le_places { (n ≤ places) × (m ≤ places + 1) × (places ≤ 4095) × (5 * places + 1 ≤ length rg.now) }
-    requires chained { Chained (take n rg.now) heads.now prevs.now (length (take n rg.now)) }
-    ensures { result ≡ all m (recycled_id_test places n next rg.now) }
+// The rules of each of m recycled ids, by the index of the registered ones.
+fn recycled_sound(rg: &[u64], places: usize, m: usize, next: u64, ids: &Index<'_>) -> bool
+    requires m_le_places { (m ≤ places + 1) × (places ≤ 4095) × (5 * places + 1 ≤ length rg.now) }
+    requires of_these { ids.now.words.now ≡ take (length ids.now.words.now) rg.now }
+    ensures { result ≡ all m (recycled_id_test places (length ids.now.words.now) next rg.now) }
 {
     let mut last = 0;
     let mut j = 0;
@@ -113,7 +100,7 @@ fn recycled_sound(
         if next <= id {
             return false;
         }
-        if unregistered(rg, n, heads, prevs, id) {
+        if unregistered(ids, id) {
             last = id;
             j += 1;
         } else {
@@ -123,29 +110,31 @@ fn recycled_sound(
     true
 }
 
-// The rules of a registry of n registered and m recycled ids, but for the holders'. If they hold, heads and prevs, which index nothing
-// yet, are left as the index of the registered ids.
-pub fn registry_sound(
-    rg: &[u64],
+// The rules of a registry of n registered and m recycled ids, but for the holders'. If they hold, the index of the registered ids, made in
+// heads and prevs, which index nothing yet.
+pub fn registry_sound<'a>(
+    rg: &'a [u64],
     places: usize,
     n: usize,
     m: usize,
     next: u64,
-    heads: &mut [u16],
-    prevs: &mut [u16],
-) -> bool
+    heads: &'a mut [u16],
+    prevs: &'a mut [u16],
+) -> Option<Index<'a>>
     requires n_le_places { (n ≤ places) × (m ≤ places + 1) × (places ≤ 4095) × (5 * places + 1 ≤ length rg.now) }
     requires chained { Chained (take n rg.now) heads.old prevs.old 0 }
-    ensures value { result ≡ registry_test places n m next rg.now }
-    ensures chained_2 { result ≡ true → Chained (take n rg.now) heads.new prevs.new (length (take n rg.now)) }
+    ensures value { is_some result ≡ registry_test places n m next rg.now }
+    ensures indexed { IfSome result (λ ids. ids.words.now ≡ take n rg.now) }
 {
     if !places_sound(rg, places, n, next) {
-        return false;
+        return None;
     }
-    if index(&rg[..n], heads, prevs) {
-        return recycled_sound(rg, places, n, m, next, heads, prevs);
+    let ids = Index::of(&rg[..n], heads, prevs)?;
+    if recycled_sound(rg, places, m, next, &ids) {
+        Some(ids)
+    } else {
+        None
     }
-    false
 }
 
 // Whether the holders at place k are at most its count.
@@ -170,28 +159,26 @@ pub fn holders_within(rg: &[u64], places: usize, n: usize, counts: &[u16]) -> bo
 }
 
 // Counts an entry of an id at the id's place, by the index of the ids, if it is registered.
-fn count_entry(ids: &[u64], heads: &[u16], prevs: &[u16], counts: &mut [u16], id: u64)
-    requires chained { Chained ids.now heads.now prevs.now (length ids.now) }
-    requires ids_in_bounds { length ids.now ≤ length counts.old }
+fn count_entry(ids: &Index<'_>, counts: &mut [u16], id: u64)
+    requires ids_in_bounds { length ids.now.words.now ≤ length counts.old }
     requires at_most { AtMost 65534 counts.old }
-    ensures { counts.new ≡ count_entry ids.now id counts.old }
+    ensures { counts.new ≡ count_entry ids.now.words.now id counts.old }
 {
-    if let Place::At(k) = place_of(ids, heads, prevs, id) {
+    if let Some(k) = ids.place_of(id) {
         counts[k] += 1;
     }
 }
 
 // Counts an entry of each of these ids.
-pub fn count_entries(ids: &[u64], heads: &[u16], prevs: &[u16], entries: &[u64], counts: &mut [u16])
-    requires chained { Chained ids.now heads.now prevs.now (length ids.now) }
-    requires ids_in_bounds { (length ids.now ≤ length counts.old) × (length entries.now ≤ 512) }
+pub fn count_entries(ids: &Index<'_>, entries: &[u64], counts: &mut [u16])
+    requires ids_in_bounds { (length ids.now.words.now ≤ length counts.old) × (length entries.now ≤ 512) }
     requires at_most { AtMost 65023 counts.old }
     ensures { counts.new
-        ≡ count_entries ids.now entries.now (length entries.now) counts.old }
+        ≡ count_entries ids.now.words.now entries.now (length entries.now) counts.old }
 {
     let mut j = 0;
     while j < entries.len() {
-        count_entry(ids, heads, prevs, counts, entries[j]);
+        count_entry(ids, counts, entries[j]);
         j += 1;
     }
 }

@@ -1,11 +1,10 @@
 // The revocation log: which pairs it has, and pairs joining it. revocation.rs's `RevocationList`.
-ghost use Rattle.std.specs.Prelude.{◌≡◌, ◌+◌, ◌≤◌, length, take, drop};
-ghost use Rattle.base.specs.Chain.{Chained};
+ghost use Rattle.std.specs.Prelude.{◌≡◌, ◌+◌, ◌^◌, ◌<◌, ◌≤◌, length, take, drop};
 ghost use Rattle.base.specs.Distinct.{Differ};
 ghost use Rattle.revocation.specs.Words.{pair_at};
 ghost use Rattle.revocation.specs.Log.{log_has, absent_of, appended};
 
-use base::distinct::{Place, index, place_of};
+use base::distinct::Index;
 
 // Whether the log, of n pairs, has the pair.
 pub fn has_pair(lg: &[u64], n: usize, pair: u64) -> bool
@@ -23,29 +22,24 @@ pub fn has_pair(lg: &[u64], n: usize, pair: u64) -> bool
 }
 
 // Whether the pairs of a whole log have this one, by their index.
-fn has_indexed(lg: &[u64], heads: &[u16], prevs: &[u16], pair: u64) -> bool
-    requires { Chained lg.now heads.now prevs.now (length lg.now) }
-    ensures { result ≡ log_has (length lg.now) lg.now pair }
+fn has_indexed(log: &Index<'_>, pair: u64) -> bool
+    ensures { result ≡ log_has (length log.now.words.now) log.now.words.now pair }
 {
-    match place_of(lg, heads, prevs, pair) {
-        Place::At(_) => true,
-        Place::Nowhere => false,
-    }
+    log.place_of(pair).is_some()
 }
 
 // Of the first `count` pairs those that the log has not come to the front, in order, by the index of the log; answers how many.
-fn keep_by_index(lg: &[u64], heads: &[u16], prevs: &[u16], pairs: &mut [u64], count: usize) -> usize
-    requires chained { Chained lg.now heads.now prevs.now (length lg.now) }
+fn keep_by_index(log: &Index<'_>, pairs: &mut [u64], count: usize) -> usize
     requires count_in_bounds { count ≤ length pairs.old }
     ensures pairs_after { take result pairs.new
-        ≡ absent_of (length lg.now) lg.now (take count pairs.old) }
+        ≡ absent_of (length log.now.words.now) log.now.words.now (take count pairs.old) }
     ensures upper_bound { (result ≤ count) × (drop result pairs.new ≡ drop result pairs.old) }
 {
     let mut kept = 0;
     let mut j = 0;
     while j < count {
         let pair = pairs[j];
-        if has_indexed(lg, heads, prevs, pair) {
+        if has_indexed(log, pair) {
             j += 1;
             continue;
         }
@@ -56,23 +50,19 @@ fn keep_by_index(lg: &[u64], heads: &[u16], prevs: &[u16], pairs: &mut [u64], co
     kept
 }
 
-// The same from an index of nothing yet, since the pairs of a log differ.
-fn keep_indexing(
-    lg: &[u64],
-    heads: &mut [u16],
-    prevs: &mut [u16],
-    pairs: &mut [u64],
-    count: usize,
-) -> usize
-    requires chained { Chained lg.now heads.old prevs.old 0 }
-    requires lg_len_bound { (length lg.now ≤ 8192) × (count ≤ length pairs.old) }
+// The same by an index of N places in H buckets, made for it, since the pairs of a log differ.
+fn keep_in<const H: usize, const N: usize>(lg: &[u64], pairs: &mut [u64], count: usize) -> usize
+    requires sizes { (0 < H) × (H ≤ 2 ^ 32) × (length lg.now ≤ N) × (N < 2 ^ 16) }
+    requires count_in_bounds { count ≤ length pairs.old }
     requires differ { Differ (length lg.now) (pair_at lg.now) }
     ensures pairs_after { take result pairs.new
         ≡ absent_of (length lg.now) lg.now (take count pairs.old) }
     ensures upper_bound { (result ≤ count) × (drop result pairs.new ≡ drop result pairs.old) }
 {
-    index(lg, heads, prevs);
-    keep_by_index(lg, heads, prevs, pairs, count)
+    let mut heads = [0u16; H];
+    let mut prevs = [0u16; N];
+    let log = Index::of(lg, &mut heads, &mut prevs).unwrap();
+    keep_by_index(&log, pairs, count)
 }
 
 // Those of the first `count` pairs that the log, of n pairs, has not come to the front, in order; answers how many. For one pair the log is
@@ -90,13 +80,9 @@ pub fn keep_absent(lg: &[u64], n: usize, pairs: &mut [u64], count: usize) -> usi
         return 1;
     }
     if n <= 512 {
-        let mut heads = [0u16; 2048];
-        let mut prevs = [0u16; 512];
-        return keep_indexing(&lg[..n], &mut heads, &mut prevs, pairs, count);
+        return keep_in::<2048, 512>(&lg[..n], pairs, count);
     }
-    let mut heads = [0u16; 65536];
-    let mut prevs = [0u16; 8192];
-    keep_indexing(&lg[..n], &mut heads, &mut prevs, pairs, count)
+    keep_in::<65536, 8192>(&lg[..n], pairs, count)
 }
 
 // These pairs join the log behind its n.

@@ -8,7 +8,6 @@ ghost use Rattle.table.specs.Slots.{kind_at};
 ghost use Rattle.table.specs.Insert.{slots_for};
 ghost use Rattle.table.specs.Sound.{ends_at, ends_here, coded_at, coded_test, capacity_test, agree_test, room_test, unused_test, most_test, found_test, live_slots, sound_test};
 
-use base::distinct::wide;
 use table::{CapTable, FULL, REMOVED, find, id_at, kind_at, slots_for};
 
 // 0 slots or a power of two from 8 to the most that there can be.
@@ -124,7 +123,7 @@ fn all_found(words: &[u64], slots: usize, live: &[u16]) -> bool
 {
     let mut j = 0;
     while j < live.len() {
-        if is_found(words, slots, wide(live[j])) {
+        if is_found(words, slots, live[j] as usize) {
             j += 1;
         } else {
             return false;

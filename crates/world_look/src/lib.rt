@@ -2,7 +2,6 @@
 #![tactic(auto)]
 
 ghost use Rattle.std.specs.Prelude.{◌≡◌, true, ◌+◌, ◌*◌, ◌<◌, ◌≤◌, length};
-ghost use Rattle.base.specs.Chain.{Chained};
 ghost use Rattle.registry.specs.Counts.{AtMost};
 ghost use Rattle.space.specs.Sound.{space_test};
 ghost use Rattle.space.specs.Words.{table_of, slot_words};
@@ -12,6 +11,7 @@ ghost use Rattle.world.specs.Numbers.{registered_of, InRange};
 ghost use Rattle.world.specs.Sound.{registered_ids, counts_test, head_test, spaces_test, holdings_test, logged_test, queues_test, sound_test};
 ghost use Rattle.world.specs.SoundLaws.{Headed};
 
+use base::distinct::Index;
 use registry_look::{count_entries, holders_within, registry_sound};
 use world::Numbers;
 use world::head::{LOGGED, NEXT, RECYCLED, REGISTERED, in_range, numbers};
@@ -71,34 +71,24 @@ fn live_ids(words: &[u64], slots: usize, ids: &mut [u64; 512]) -> usize
 }
 
 // Counts the entries of a space, at the places of their ids.
-fn count_space(sp: &[u64], ids: &[u64], heads: &[u16], prevs: &[u16], counts: &mut [u16])
+fn count_space(sp: &[u64], ids: &Index<'_>, counts: &mut [u16])
     requires sp_bound { ((table_of sp.now).slots ≤ 512) × (8 + 4 * (table_of sp.now).slots ≤ length sp.now) }
-    requires chained { Chained ids.now heads.now prevs.now (length ids.now) }
-    requires ids_in_bounds { length ids.now ≤ length counts.old }
+    requires ids_in_bounds { length ids.now.words.now ≤ length counts.old }
     requires at_most { AtMost 65023 counts.old }
     ensures { counts.new
-        ≡ count_slots ids.now (slot_words sp.now) (table_of sp.now).slots counts.old }
+        ≡ count_slots ids.now.words.now (slot_words sp.now) (table_of sp.now).slots counts.old }
 {
     let mut entries = [0u64; 512];
     let n = live_ids(&sp[space::TABLE..], sp[space::SLOTS] as usize, &mut entries);
-    count_entries(ids, heads, prevs, &entries[..n], counts);
+    count_entries(ids, &entries[..n], counts);
 }
 
 // Whether space s is sound. If so, its entries are counted.
-fn space_sound(
-    mem: &[u64],
-    d: Numbers,
-    s: usize,
-    ids: &[u64],
-    heads: &[u16],
-    prevs: &[u16],
-    counts: &mut [u16],
-) -> bool
+fn space_sound(mem: &[u64], d: Numbers, s: usize, ids: &Index<'_>, counts: &mut [u16]) -> bool
     requires headed { Headed d mem.now × (s < d.spaces) }
-    requires chained { Chained ids.now heads.now prevs.now (length ids.now) }
-    requires looked { Looked d mem.now ids.now s counts.old }
+    requires looked { Looked d mem.now ids.now.words.now s counts.old }
     ensures value { result ≡ space_test d.most (view d (space s) mem.now) }
-    ensures looked_2 { result ≡ true → Looked d mem.now ids.now (s + 1) counts.new }
+    ensures looked_2 { result ≡ true → Looked d mem.now ids.now.words.now (s + 1) counts.new }
 {
     let start = space_at(d, s);
     let end = start + width(d);
@@ -106,28 +96,20 @@ fn space_sound(
     if !space::is_sound(sp, d.most) {
         return false;
     }
-    count_space(sp, ids, heads, prevs, counts);
+    count_space(sp, ids, counts);
     true
 }
 
 // Whether each space is sound. If so, the spaces that have an entry of it are counted for each id.
-fn spaces_sound(
-    mem: &[u64],
-    d: Numbers,
-    ids: &[u64],
-    heads: &[u16],
-    prevs: &[u16],
-    counts: &mut [u16],
-) -> bool
+fn spaces_sound(mem: &[u64], d: Numbers, ids: &Index<'_>, counts: &mut [u16]) -> bool
     requires headed { Headed d mem.now }
-    requires chained { Chained ids.now heads.now prevs.now (length ids.now) }
-    requires looked { Looked d mem.now ids.now 0 counts.old }
+    requires looked { Looked d mem.now ids.now.words.now 0 counts.old }
     ensures value { result ≡ spaces_test d mem.now }
-    ensures looked_2 { result ≡ true → Looked d mem.now ids.now d.spaces counts.new }
+    ensures looked_2 { result ≡ true → Looked d mem.now ids.now.words.now d.spaces counts.new }
 {
     let mut s = 0;
     while s < d.spaces {
-        if space_sound(mem, d, s, ids, heads, prevs, counts) {
+        if space_sound(mem, d, s, ids, counts) {
             s += 1;
         } else {
             return false;
@@ -136,39 +118,31 @@ fn spaces_sound(
     true
 }
 
-// The ids, then the spaces, whose entries are counted by the index of the ids, then the holders. Heads and prevs index nothing yet, and
-// nothing is counted.
-fn holdings_by(
-    mem: &[u64],
-    d: Numbers,
-    heads: &mut [u16],
-    prevs: &mut [u16],
-    counts: &mut [u16],
-) -> bool
-    requires headed { Headed d mem.now }
-    requires chained { Chained (registered_ids d mem.now) heads.old prevs.old 0 }
-    requires mem_in_bounds { (registered_of mem.now ≤ length counts.old) × AtMost 0 counts.old }
+// The ids, then the spaces, whose entries are counted by the index of the ids, then the holders: an index of N places in H buckets, and
+// as many counters as places.
+fn holdings_by<const H: usize, const N: usize>(mem: &[u64], d: Numbers) -> bool
+    requires sizes { (0 < H) × (H ≤ 2 ^ 32) × (N < 2 ^ 16) }
+    requires headed { Headed d mem.now × (registered_of mem.now ≤ N) }
     ensures { result ≡ holdings_test d mem.now }
 {
+    let mut heads = [0u16; H];
+    let mut prevs = [0u16; N];
+    let mut counts = [0u16; N];
     let start = registry_at(d);
     let end = start + 5 * d.places + 1;
     let rg = &mem[start..end];
     let n = mem[REGISTERED] as usize;
-    if !registry_sound(
+    let indexed = registry_sound(
         rg,
         d.places,
         n,
         mem[RECYCLED] as usize,
         mem[NEXT],
-        heads,
-        prevs,
-    ) {
-        return false;
-    }
-    if !spaces_sound(mem, d, &rg[..n], heads, prevs, counts) {
-        return false;
-    }
-    holders_within(rg, d.places, n, counts)
+        &mut heads,
+        &mut prevs,
+    );
+    let Some(ids) = indexed else { return false };
+    spaces_sound(mem, d, &ids, &mut counts) && holders_within(rg, d.places, n, &counts)
 }
 
 // The ids, the spaces and the holders. Few ids have a small index, since to clear the large one takes longer than to look at them.
@@ -177,15 +151,9 @@ fn holdings_sound(mem: &[u64], d: Numbers) -> bool
     ensures { result ≡ holdings_test d mem.now }
 {
     if mem[REGISTERED] <= 512 {
-        let mut heads = [0u16; 2048];
-        let mut prevs = [0u16; 512];
-        let mut counts = [0u16; 512];
-        return holdings_by(mem, d, &mut heads, &mut prevs, &mut counts);
+        return holdings_by::<2048, 512>(mem, d);
     }
-    let mut heads = [0u16; 65536];
-    let mut prevs = [0u16; 4096];
-    let mut counts = [0u16; 4096];
-    holdings_by(mem, d, &mut heads, &mut prevs, &mut counts)
+    holdings_by::<65536, 4096>(mem, d)
 }
 
 fn log_sound(mem: &[u64], d: Numbers) -> bool

@@ -9,7 +9,7 @@ pub record Done (ids entries counts₀ counts : List ℕ) (j : ℕ) : Type 0 whe
   pub counted : counts ≡ count_entries ids entries j counts₀
 
 abbrev pub invariant-loop-j : goal.invariant-loop-j
-invariant-loop-j l = Done l.ids l.entries l.initial.counts l.counts l.j
+invariant-loop-j l = Done l.ids.words.now l.entries l.initial.counts l.counts l.j
 
 abbrev pub decreases-loop-j : goal.decreases-loop-j
 decreases-loop-j l = length l.entries - l.j

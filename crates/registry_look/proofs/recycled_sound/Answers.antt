@@ -1,6 +1,6 @@
-use Rattle.std.proofs.Common.{◌≡◌, refl, sym, ◌∙◌, Bool, true, false, List, ℕ, ◌+◌, ◌<◌, ◌≤◌, add-one, arith, rules, lt-ltb, le-ltb}
+use Rattle.std.proofs.Common.{◌≡◌, refl, sym, ◌∙◌, Bool, true, false, List, ℕ, ◌+◌, ◌<◌, ◌≤◌, add-one, arith, rules, lt-ltb, le-ltb, ap, not, eqb, length, get_or, take, get_or-take}
 use Rattle.base.specs.Below.{all}
-use Rattle.base.specs.AllLaws.{all_none, all_more, all_done, all_broken}
+use Rattle.base.specs.AllLaws.{all_none, all_more, all_done, all_broken, all_ext}
 use Rattle.registry.specs.Words.{id_at, recycled_at}
 use Rattle.registry.specs.Sound.{unregistered_id}
 use Rattle.registry_look.specs.Look.{recycled_id_test}
@@ -10,38 +10,53 @@ use Rattle.registry_look.proofs.recycled_sound.Goals as goal
 starts : (places n m next : ℕ) (rg : List ℕ) → Done places n m next rg 0 0
 starts places n m next rg = record { inside = omega arith; last_is = refl; passed = all_none (recycled_id_test places n next rg) }
 
-module _ (places n m next : ℕ) (rg : List ℕ) (last j : ℕ) (done : Done places n m next rg last j) where
-  ends : m ≤ j → true ≡ all m (recycled_id_test places n next rg)
-  ends u = all_done j m (recycled_id_test places n next rg) done.passed done.inside u
+-- The ids that are indexed are the registry's.
+module _ (ids rg : List ℕ) (these : ids ≡ take (length ids) rg) where
+  id_is : (k : ℕ) → k < length ids → id_at ids k ≡ id_at rg k
+  id_is k l = ap (λ xs. get_or xs k 0) these ∙ get_or-take (length ids) rg k 0 l
 
-  module _ (l : j < m) where
-    breaks : recycled_id_test places n next rg j ≡ false → false ≡ all m (recycled_id_test places n next rg)
-    breaks fails = all_broken j m (recycled_id_test places n next rg) l fails
+  of_these : (id : ℕ) → unregistered_id (length ids) (id_at ids) id ≡ unregistered_id (length ids) (id_at rg) id
+  of_these id =
+      all_ext (length ids) (λ k. not (eqb id (id_at ids k))) (λ k. not (eqb id (id_at rg k))) (λ k l. rw (id_is k l))
 
-    not_above : recycled_at places rg j ≤ last → false ≡ all m (recycled_id_test places n next rg)
-    unfolding recycled_id_test
-    not_above low = breaks (rw (← done.last_is, le-ltb last (recycled_at places rg j) low))
+module _
+    (places m next : ℕ) (ids rg : List ℕ) (these : ids ≡ take (length ids) rg) (last j : ℕ)
+    (done : Done places (length ids) m next rg last j)
+  where
+    abbrev n : ℕ
+    n = length ids
 
-    module _ (above : last < recycled_at places rg j) where
-      not_issued : next ≤ recycled_at places rg j → false ≡ all m (recycled_id_test places n next rg)
+    ends : m ≤ j → true ≡ all m (recycled_id_test places n next rg)
+    ends u = all_done j m (recycled_id_test places n next rg) done.passed done.inside u
+
+    module _ (l : j < m) where
+      breaks : recycled_id_test places n next rg j ≡ false → false ≡ all m (recycled_id_test places n next rg)
+      breaks fails = all_broken j m (recycled_id_test places n next rg) l fails
+
+      not_above : recycled_at places rg j ≤ last → false ≡ all m (recycled_id_test places n next rg)
       unfolding recycled_id_test
-      not_issued high =
-          breaks (rw (← done.last_is, lt-ltb last (recycled_at places rg j) above, le-ltb (recycled_at places rg j) next high))
+      not_above low = breaks (rw (← done.last_is, le-ltb last (recycled_at places rg j) low))
 
-      module _ (issued : recycled_at places rg j < next) (r : Bool) (e : r ≡ unregistered_id n (id_at rg) (recycled_at places rg j)) where
-        tested : recycled_id_test places n next rg j ≡ r
+      module _ (above : last < recycled_at places rg j) where
+        not_issued : next ≤ recycled_at places rg j → false ≡ all m (recycled_id_test places n next rg)
         unfolding recycled_id_test
-        tested = rw (← done.last_is, lt-ltb last (recycled_at places rg j) above, lt-ltb (recycled_at places rg j) next issued) (sym e)
+        not_issued high =
+            breaks (rw (← done.last_is, lt-ltb last (recycled_at places rg j) above, le-ltb (recycled_at places rg j) next high))
 
-        registered : r ≡ false → false ≡ all m (recycled_id_test places n next rg)
-        registered no' = breaks (tested ∙ no')
+        module _ (issued : recycled_at places rg j < next) (r : Bool) (e : r ≡ unregistered_id n (id_at ids) (recycled_at places rg j)) where
+          tested : recycled_id_test places n next rg j ≡ r
+          unfolding recycled_id_test
+          tested = rw (← done.last_is, lt-ltb last (recycled_at places rg j) above, lt-ltb (recycled_at places rg j) next issued) (sym (e ∙ of_these ids rg these (recycled_at places rg j)))
 
-        goes : (v : ℕ) → v ≡ recycled_at places rg j → r ≡ true → Done places n m next rg v (j + 1)
-        goes v this yes' = record {
-          inside = omega arith;
-          last_is = rw (add-one, this);
-          passed = all_more j (recycled_id_test places n next rg) done.passed (tested ∙ yes');
-        }
+          registered : r ≡ false → false ≡ all m (recycled_id_test places n next rg)
+          registered no' = breaks (tested ∙ no')
+
+          goes : (v : ℕ) → v ≡ recycled_at places rg j → r ≡ true → Done places n m next rg v (j + 1)
+          goes v this yes' = record {
+            inside = omega arith;
+            last_is = rw (add-one, this);
+            passed = all_more j (recycled_id_test places n next rg) done.passed (tested ∙ yes');
+          }
 
 ruleset laws = (rules, starts, ends, not_above, not_issued, registered, goes)
 

@@ -1,5 +1,5 @@
 -- `registry_look::registry_sound` meets its contract: the passes and the index test the rules, and the last pass writes nothing.
-use Rattle.std.proofs.Common.{ap, ◌≡◌, ◌∙◌, Bool, true, false, not, List, ℕ, ◌≤◌, arith, length, take}
+use Rattle.std.proofs.Common.{ap, ◌≡◌, refl, ◌∙◌, Bool, true, false, not, List, ℕ, ◌≤◌, arith, length, take, length-take-le, is_some}
 use Rattle.std.proofs.lemmas.Bool.{not-true, not-false}
 use Rattle.base.specs.Below.{all}
 use Rattle.base.specs.Choose.{both, both_goes, both_stops}
@@ -24,8 +24,14 @@ module _ (places n m next : ℕ) (rg : List ℕ) (p : Bool) (tested : p ≡ plac
     differ : d ≡ differ_test n (id_at rg)
     differ = e ∙ differ_take n rg fits
 
-    goes : (r : Bool) → d ≡ true → r ≡ all m (recycled_id_test places n next rg) → r ≡ registry_test places n m next rg
-    goes r yes' h = kept r (both_goes (differ_test n (id_at rg)) (all m (recycled_id_test places n next rg)) d r differ yes' h)
+    -- The rules of the recycled ids, as they were tested by the index.
+    goes : (r : Bool) (words : List ℕ) → d ≡ true → words ≡ take n rg → r ≡ all m (recycled_id_test places (length words) next rg)
+        → r ≡ registry_test places n m next rg
+    goes r words yes' these h =
+        let count : length words ≡ n = ap length these ∙ length-take-le n rg fits in
+        kept r
+        (both_goes (differ_test n (id_at rg)) (all m (recycled_id_test places n next rg)) d r differ yes'
+        (h ∙ ap (λ n. all m (recycled_id_test places n next rg)) count))
 
     stops : d ≡ false → false ≡ registry_test places n m next rg
     stops no' = kept false (both_stops (differ_test n (id_at rg)) (all m (recycled_id_test places n next rg)) d differ no')
@@ -33,12 +39,19 @@ module _ (places n m next : ℕ) (rg : List ℕ) (p : Bool) (tested : p ≡ plac
 pub returns-then-not-places_sound-clause-value : goal.returns-then-not-places_sound-clause-value
 returns-then-not-places_sound-clause-value c = broken _ _ _ _ _ _ c.places_sound.ensures (ap not c.if-not-places_sound.true)
 
-pub returns-then-index-clause-value : goal.returns-then-index-clause-value
-returns-then-index-clause-value c =
-    let differs = c.if-index.true in goes _ _ _ _ _ _ c.places_sound.ensures (ap not c.if-not-places_sound.false) (omega arith) _
-    c.index.ensures.value _ differs
-    c.recycled_sound.ensures
+pub returns-in_err-ids-clause-value : goal.returns-in_err-ids-clause-value
+returns-in_err-ids-clause-value c =
+    ap is_some c.from_residual.ensures
+    ∙ stops _ _ _ _ _ _ c.places_sound.ensures (ap not c.if-not-places_sound.false) (omega arith) _ c.in_err-ids.ensures.value refl
 
-pub returns-clause-value : goal.returns-clause-value
-returns-clause-value c = stops _ _ _ _ _ _ c.places_sound.ensures (ap not c.if-not-places_sound.false) (omega arith) _ c.index.ensures.value
-    c.if-index.false
+pub returns-then-recycled_sound-clause-value : goal.returns-then-recycled_sound-clause-value
+returns-then-recycled_sound-clause-value c =
+    let index = c.in_ok-ids.ensures in
+    goes _ _ _ _ _ _ c.places_sound.ensures (ap not c.if-not-places_sound.false) (omega arith) _ index.value _ _ refl index.indexed
+    c.if-recycled_sound.ensures
+
+pub returns-else-recycled_sound-clause-value : goal.returns-else-recycled_sound-clause-value
+returns-else-recycled_sound-clause-value c =
+    let index = c.in_ok-ids.ensures in
+    goes _ _ _ _ _ _ c.places_sound.ensures (ap not c.if-not-places_sound.false) (omega arith) _ index.value _ _ refl index.indexed
+    c.if-recycled_sound.ensures

@@ -1,7 +1,6 @@
 -- `revocation::log::keep_absent` meets its contract: one pair stays where it is; for more, what is lent is the first n pairs of the log,
 -- and fresh arrays index nothing.
 use Rattle.std.proofs.Common.{◌≡◌, sym, ◌∙◌, Bool, true, false, List, [], ◌∷◌, ℕ, ◌<◌, ◌≤◌, arith, length, get_or, take, length-take, take-suc}
-use Rattle.base.specs.Chain.{chained_none}
 use Rattle.revocation.specs.Log.{log_has, absent_of}
 use Rattle.revocation.specs.LogLaws.{absent_one, absent_take}
 use Rattle.revocation.proofs.log.keep_absent.Goals as goal
@@ -27,16 +26,10 @@ returns-then-has_pair-clause-pairs_after c = had _ _ _ _ c.if-count-eq1.true (om
 pub returns-then-count-eq1-clause-pairs_after : goal.returns-then-count-eq1-clause-pairs_after
 returns-then-count-eq1-clause-pairs_after c = lacked _ _ _ _ c.if-count-eq1.true (omega arith) _ c.has_pair.ensures c.if-has_pair.false
 
-pub keep_indexing-requires-clause-chained : goal.keep_indexing-requires-clause-chained
-keep_indexing-requires-clause-chained c = chained_none _ _ 2048 (omega arith) (omega arith) (simp length-take (omega arith))
-
 pub returns-then-n-le512-clause-pairs_after : goal.returns-then-n-le512-clause-pairs_after
 returns-then-n-le512-clause-pairs_after c =
-    let kept = c.keep_indexing.ensures in whole _ _ (omega arith) _ _ kept.pairs_after
-
-pub keep_indexing-requires-2-clause-chained : goal.keep_indexing-requires-2-clause-chained
-keep_indexing-requires-2-clause-chained c = chained_none _ _ 65536 (omega arith) (omega arith) (simp length-take (omega arith))
+    let kept = c.keep_in.ensures in whole _ _ (omega arith) _ _ kept.pairs_after
 
 pub returns-clause-pairs_after : goal.returns-clause-pairs_after
 returns-clause-pairs_after c =
-    let kept = c.keep_indexing-2.ensures in whole _ _ (omega arith) _ _ kept.pairs_after
+    let kept = c.keep_in-2.ensures in whole _ _ (omega arith) _ _ kept.pairs_after

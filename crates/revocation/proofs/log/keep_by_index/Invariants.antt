@@ -8,7 +8,7 @@ abbrev pub absent : List ℕ → ℕ → Bool
 absent lg pair = not (log_has (length lg) lg pair)
 
 abbrev pub invariant-loop-j : goal.invariant-loop-j
-invariant-loop-j l = Sifting (absent l.lg) l.initial.pairs l.count l.pairs l.kept l.j
+invariant-loop-j l = Sifting (absent l.log.words.now) l.initial.pairs l.count l.pairs l.kept l.j
 
 abbrev pub decreases-loop-j : goal.decreases-loop-j
 decreases-loop-j l = l.count - l.j
