@@ -18,8 +18,6 @@ ghost use Rattle.steps.specs.Steps.{space_of, facts_of, lookup_step, next_step, 
 use answers::Refusal;
 use space::LookedUp;
 use steps::holders::{hold, hold_all, release, release_all};
-use steps::replies::replied;
-use steps::{Copied, Facts, Reply};
 use steps::{Copied, Done, Facts, Refused};
 use table::CapabilityEntry;
 use token::{CapabilityToken, Rights};
@@ -95,7 +93,7 @@ fn insert_entry(mem: &mut [u64], d: Numbers, s: usize, entry: CapabilityEntry) -
 }
 
 /// A new entry. If it is accepted its holder is counted, and the value answered; the count is how many entries its rebuild moved.
-#[tactic(auto, using(steps::proofs::ChangingEntries::inserting))]
+#[tactic(auto, using(steps::proofs::ChangingEntries::accepted_reply, steps::proofs::ChangingEntries::refused_reply))]
 pub fn insert(
     mem: &mut [u64],
     d: Numbers,

@@ -1,5 +1,6 @@
 -- Entries come and go, and their holders are counted: the ways through the steps of `space_steps` that do it.
-use Rattle.std.proofs.Common.{◌≡◌, ℕ, true, false, eqb, ◌≢◌, List, length, sym, refl, ap, ◌∙◌, ne_eqb, Option, Result, Ok, Err}
+use Rattle.std.proofs.Common.{◌≡◌, ℕ, true, false, eqb, ◌≢◌, List, length, sym, refl, ap, ◌∙◌, ne_eqb, rules, Result, Ok, Err}
+use Rattle.std.specs.Prelude.{is_some}
 use Rattle.answers.specs.Number.{number_of}
 use Rattle.answers.specs.NumberLaws.{refusal_some}
 use Rattle.answers.specs.Answer.{Done, Refuses, answer_of}
@@ -9,6 +10,7 @@ use Rattle.space.specs.Change.{moved_of, insert_out, removed_token, cleared}
 use Rattle.space.specs.Copy.{copied_space}
 use Rattle.space.specs.Ids.{entry_ids}
 use Rattle.space.specs.Lookup.{looked_up}
+use Rattle.space.specs.declared.LookedUp.{LookedUp}
 use Rattle.space.proofs.laws.Insert.{refused_changes_nothing}
 use Rattle.table.specs.Slots.{id_of}
 use Rattle.table.specs.declared.CapabilityEntry.{CapabilityEntry}
@@ -18,7 +20,7 @@ use Rattle.world.specs.Regions.{space, start_of, size_of, on_region}
 use Rattle.world.specs.declared.Numbers.{Numbers}
 use Rattle.steps.specs.Ready.{Fits, Ready}
 use Rattle.steps.specs.Replies.{replied}
-use Rattle.steps.specs.Steps.{space_of, hold_step, release_step, hold_all_step, release_all_step, insert_step, insert_reply, is_entry, remove_step, clear_step, copy_step}
+use Rattle.steps.specs.Steps.{space_of, hold_step, release_step, hold_all_step, release_all_step, insert_step, insert_reply, remove_step, clear_step, copy_step}
 
 -- Memory of the same length fits as well.
 pub still_fits : (d : Numbers) (mem after : List ℕ) → Ready d mem → length after ≡ length mem → Fits d after
@@ -63,15 +65,15 @@ module _ (d : Numbers) (s : ℕ) (mem : List ℕ) where
       (on_part_same (start_of d (space s)) (size_of d (space s)) (λ sp. (insert_out sp e).words) mem
       (refused_changes_nothing (space_of d s mem) e (λ done. some (ap number_of done))).0)
 
-  module _ (token : ℕ) (between : List ℕ) (got : Option CapabilityEntry) (left : between ≡ on_region d (space s) (λ sp. removed_token sp token) mem)
-      (told : got ≡ (looked_up (space_of d s mem) token).got)
+  module _ (token : ℕ) (between : List ℕ) (l : LookedUp) (left : between ≡ on_region d (space s) (λ sp. removed_token sp token) mem)
+      (told : l ≡ looked_up (space_of d s mem) token)
     where
-      pub removed_as_found : is_entry got ≡ true → (id : ℕ) → id ≡ token_id token → (after : List ℕ)
+      pub removed_as_found : is_some l.got ≡ true → (id : ℕ) → id ≡ token_id token → (after : List ℕ)
           → after ≡ release_step d (registered_of mem) id between → after ≡ remove_step d s token mem
       unfolding remove_step
       removed_as_found found id is after released = rw (← told, found, released, is, left)
 
-      pub remove_absent : is_entry got ≡ false → between ≡ remove_step d s token mem
+      pub remove_absent : is_some l.got ≡ false → between ≡ remove_step d s token mem
       unfolding remove_step
       remove_absent is = rw (← told, is, left)
 
@@ -89,4 +91,4 @@ pub copy_done :
 unfolding copy_step
 copy_done d target source mem came left copied held after come leave copy hold release = rw (release, hold, come, leave, copy)
 
-pub ruleset inserting = (insert_accepted, accepted_reply, insert_refused, refused_reply)
+pub ruleset removing = (rules, removed_as_found, remove_absent)

@@ -1,5 +1,5 @@
 -- What each step leaves of the memory, and what it answers where that is not the structure's own answer.
-use Rattle.std.specs.Prelude.{◌≡◌, ℕ, suc, ◌+◌, ◌-◌, ◌%◌, ◌^◌, Bool, true, false, List, length, set, ◌==◌, nat_lt, slice_index, slice_set, Option, None, Some}
+use Rattle.std.specs.Prelude.{◌≡◌, ℕ, suc, ◌+◌, ◌-◌, ◌%◌, ◌^◌, Bool, true, false, List, length, set, ◌==◌, nat_lt, slice_index, slice_set, Option, None, Some, is_some}
 use Rattle.answers.specs.Number.{number_of}
 use Rattle.base.specs.Choose.{pick}
 use Rattle.registry.specs.Holders.{place_of, held, released, held_all, released_all}
@@ -76,14 +76,10 @@ insert_step d s e mem =
 abbrev pub insert_reply : ℕ → InsertOut → Reply
 insert_reply value o = replied o.answer (pick (number_of o.answer == 0) value 0) o.moved
 
-abbrev pub is_entry : Option CapabilityEntry → Bool
-is_entry (Some e) = true
-is_entry None = false
-
 unfoldable pub remove_step : Numbers → ℕ → ℕ → List ℕ → List ℕ
 remove_step d s token mem =
     let after = on_region d (space s) (λ sp. removed_token sp token) mem in
-    pick (is_entry (looked_up (space_of d s mem) token).got) (release_step d (registered_of mem) (token_id token) after) after
+    pick (is_some (looked_up (space_of d s mem) token).got) (release_step d (registered_of mem) (token_id token) after) after
 
 unfoldable pub clear_step : Numbers → ℕ → List ℕ → List ℕ
 clear_step d s mem = release_all_step d (registered_of mem) (entry_ids (space_of d s mem)) (on_region d (space s) cleared mem)

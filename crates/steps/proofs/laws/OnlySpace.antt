@@ -1,6 +1,7 @@
 -- Nothing but the named space and holders changes: what each step of a space leaves of that space, and that every other space, the head,
 -- the log and the queues stay, and of the registry all but holders.
 use Rattle.std.proofs.Common.{◌≡◌, ℕ, ◌+◌, ◌*◌, ◌%◌, ◌^◌, ◌<◌, ◌≤◌, Bool, true, false, eqb, ◌≢◌, List, length, get_or, sym, refl, ◌∙◌, subst, ne_eqb}
+use Rattle.std.specs.Prelude.{is_some}
 use Rattle.answers.specs.Number.{number_of}
 use Rattle.base.specs.Choose.{pick}
 use Rattle.registry.specs.HoldersLaws.{HoldersOnly, holders_only_refl, holders_only_trans, held_only, released_only, held_all_only, released_all_only}
@@ -10,7 +11,7 @@ use Rattle.space.specs.Ids.{entry_ids}
 use Rattle.space.specs.Lookup.{looked_up, counted}
 use Rattle.space.specs.Sound.{SpaceOf}
 use Rattle.space.proofs.laws.Kept.{lookup_keeps, insert_keeps, remove_keeps, clear_keeps, next_keeps, copy_keeps}
-use Rattle.steps.specs.Steps.{space_of, is_entry, lookup_step, next_step, hold_step, release_step, hold_all_step, release_all_step, insert_step, remove_step, clear_step, copy_step}
+use Rattle.steps.specs.Steps.{space_of, lookup_step, next_step, hold_step, release_step, hold_all_step, release_all_step, insert_step, remove_step, clear_step, copy_step}
 use Rattle.steps.proofs.laws.Ready.{is_space}
 use Rattle.steps.proofs.laws.Stepped.{space_change}
 use Rattle.table.specs.Slots.{id_of}
@@ -128,7 +129,7 @@ module _ (d : Numbers) (mem : List ℕ) (sound : SoundAt d mem) (s : ℕ) (valid
 
   pub remove_in_space : (token : ℕ) → Step d s mem (remove_step d s token mem) (removed_token sp token)
   unfolding remove_step release_step
-  remove_in_space token = go (is_entry (looked_up sp token).got)
+  remove_in_space token = go (is_some (looked_up sp token).got)
     where
       after : List ℕ
       after = on_region d (space s) (λ sp. removed_token sp token) mem

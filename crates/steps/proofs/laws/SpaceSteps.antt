@@ -1,5 +1,6 @@
 -- Each step of a space keeps a sound memory: the space as its own laws say, and holders by as much as its entries come and go.
 use Rattle.std.proofs.Common.{◌≡◌, ℕ, ◌+◌, ◌-◌, ◌*◌, ◌%◌, ◌^◌, ◌<◌, ◌≤◌, Bool, true, false, eqb, List, length, sym, refl, ap, ◌∙◌, subst, true≢false, arith, eqb-true, Option, None, Some}
+use Rattle.std.specs.Prelude.{is_some}
 use Rattle.answers.specs.Number.{number_of}
 use Rattle.base.specs.Below.{one}
 use Rattle.base.specs.Choose.{pick}
@@ -25,7 +26,7 @@ use Rattle.world.specs.Regions.{space, registry, length_for, start_of, size_of, 
 use Rattle.world.specs.Sound.{has_entry, spaces_with, SoundAt}
 use Rattle.world.specs.Views.{Change, length_kept, changed_twice, registry_words}
 use Rattle.world.specs.declared.Numbers.{Numbers}
-use Rattle.steps.specs.Steps.{is_entry, lookup_step, next_step, hold_step, release_step, hold_all_step, release_all_step, insert_step, remove_step, clear_step, copy_step}
+use Rattle.steps.specs.Steps.{lookup_step, next_step, hold_step, release_step, hold_all_step, release_all_step, insert_step, remove_step, clear_step, copy_step}
 use Rattle.steps.proofs.laws.Ready.{is_space}
 use Rattle.steps.proofs.laws.HasEntry.{count_in_entries}
 use Rattle.steps.proofs.laws.EntriesChanged.{counted_entries, next_entries, cleared_entries, copied_entries, inserted_entries, refused_entries, removed_entries, missed_entries}
@@ -122,7 +123,7 @@ module _ (d : Numbers) (mem : List ℕ) (sound : SoundAt d mem) where
         after : List ℕ
         after = on_region d (space s) (λ sp. removed_token sp token) mem
 
-        go : (g : Option CapabilityEntry) → (looked_up sp token).got ≡ g → Kept d mem (pick (is_entry g) (release_step d n (token % 2 ^ 48) after) after)
+        go : (g : Option CapabilityEntry) → (looked_up sp token).got ≡ g → Kept d mem (pick (is_some g) (release_step d n (token % 2 ^ 48) after) after)
         go (Some x) h =
             step_kept d s (λ sp. removed_token sp token) (released d.places n (token % 2 ^ 48)) mem sound
             (record {
