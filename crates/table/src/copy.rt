@@ -13,17 +13,13 @@ pub fn nth_entry(words: &[u64], slots: usize, n: usize) -> Option<CapabilityEntr
     ensures { result ≡ nth_of (live_entries words.now 0 slots) n }
 {
     let mut past = n;
-    let mut i = 0;
-    while i < slots {
-        let Slot::Full(entry) = slot_at(words, i) else {
-            i += 1;
-            continue;
-        };
-        if past == 0 {
-            return Some(entry);
+    for i in 0..slots {
+        if let Slot::Full(entry) = slot_at(words, i) {
+            if past == 0 {
+                return Some(entry);
+            }
+            past -= 1;
         }
-        past -= 1;
-        i += 1;
     }
     None
 }
@@ -33,20 +29,11 @@ fn copy_entry(words: &mut [u64], s: Inserted, entry: CapabilityEntry) -> Inserte
     requires { Insertable words.old s.table × (s.moved ≤ 2 ^ 32) }
     ensures { leaves words.new result ≡ insert_all (entry ∷ []) (leaves words.old s) }
 {
-    let capability = entry.capability;
-    let rights = entry.rights;
-    let fresh = CapabilityEntry {
-        capability,
-        object: entry.object,
-        rights,
-        uses: 0,
-    };
-    let t = s.table;
-    if crowded(t) {
-        let room = make_room(words, t);
-        let table = room.table;
+    let fresh = CapabilityEntry { uses: 0, ..entry };
+    if crowded(s.table) {
+        let room = make_room(words, s.table);
         let moved = s.moved + room.moved;
-        return place(words, Inserted { table, moved }, fresh);
+        return place(words, Inserted { moved, ..room }, fresh);
     }
     place(words, s, fresh)
 }
@@ -57,16 +44,12 @@ pub fn copy_from(words: &mut [u64], scratch: &[u64; 2048], count: usize) -> Inse
     ensures { leaves words.new result
         ≡ insert_all (scratch_entries scratch.now 0 count) (record { words = words.old; counts = none; moved = 0 }) }
 {
-    let table = CapTable {
-        slots: 0,
-        full: 0,
-        tombstones: 0,
+    let mut s = Inserted {
+        table: CapTable::EMPTY,
+        moved: 0,
     };
-    let mut s = Inserted { table, moved: 0 };
-    let mut i = 0;
-    while i < count {
+    for i in 0..count {
         s = copy_entry(words, s, entry_at(scratch, i));
-        i += 1;
     }
     s
 }

@@ -11,8 +11,7 @@ use super::{CapTable, CapabilityEntry, Inserted, Slot};
 pub fn id_of(entry: CapabilityEntry) -> u64
     ensures { result ≡ id_of entry }
 {
-    let capability = entry.capability;
-    capability.id()
+    entry.capability.id()
 }
 
 // True where one entry more would leave more than 3/4 of the slots in use, removed ones counted: every walk is to meet an empty slot.
@@ -28,11 +27,7 @@ pub fn slots_for(entries: usize) -> usize
     requires { entries ≤ 256 }
     ensures { (result ≡ slots_for entries) × (8 ≤ result) × (result ≤ 512) }
 {
-    let n = base::arith::next_power_of_two(2 * entries as u64) as usize;
-    if n < 8 {
-        return 8;
-    }
-    n
+    (base::arith::next_power_of_two(2 * entries as u64) as usize).max(8)
 }
 
 // The slots of a rebuild of a table with `live` entries, which is to take one more.
@@ -47,10 +42,8 @@ fn empty_slots(words: &mut [u64], n: usize)
     requires { (n ≤ 512) × (4 * n ≤ length words.old) }
     ensures { words.new ≡ emptied words.old n }
 {
-    let mut i = 0;
-    while i < n {
+    for i in 0..n {
         words[4 * i + 3] = 0;
-        i += 1;
     }
 }
 
@@ -74,10 +67,8 @@ pub fn gather(words: &[u64], slots: usize, scratch: &mut [u64; 2048]) -> usize
     ensures upper_bound { result ≤ slots }
 {
     let mut count = 0;
-    let mut i = 0;
-    while i < slots {
+    for i in 0..slots {
         count = gather_slot(words, i, scratch, count);
-        i += 1;
     }
     count
 }
@@ -87,12 +78,10 @@ fn place_all(words: &mut [u64], slots: usize, scratch: &[u64; 2048], count: usiz
     requires { (0 < slots) × (slots ≤ 512) × (4 * slots ≤ length words.old) × (count ≤ 512) }
     ensures { words.new ≡ place_all (scratch_entries scratch.now 0 count) words.old slots }
 {
-    let mut i = 0;
-    while i < count {
+    for i in 0..count {
         let entry = entry_at(scratch, i);
         let at = free_for(words, slots, id_of(entry));
         put_entry(words, at, entry);
-        i += 1;
     }
 }
 
@@ -137,13 +126,7 @@ fn marks_left(words: &[u64], i: usize, tombstones: usize) -> usize
     requires { (i < 512) × (4 * i + 3 < length words.now) }
     ensures { result ≡ tombstones - one (is_removed words.now i) }
 {
-    if kind_at(words, i) != REMOVED {
-        return tombstones;
-    }
-    if tombstones == 0 {
-        return 0;
-    }
-    tombstones - 1
+    tombstones.saturating_sub((kind_at(words, i) == REMOVED) as usize)
 }
 
 // The entry goes to the first free slot of its walk; a removed mark there is used up.
@@ -157,9 +140,9 @@ pub fn place(words: &mut [u64], s: Inserted, entry: CapabilityEntry) -> Inserted
     put_entry(words, at, entry);
     Inserted {
         table: CapTable {
-            slots: t.slots,
             full: t.full + 1,
             tombstones,
+            ..t
         },
         moved: s.moved,
     }

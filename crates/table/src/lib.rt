@@ -43,6 +43,15 @@ pub struct CapTable {
     pub tombstones: usize,
 }
 
+impl CapTable {
+    // A table with nothing in it.
+    pub const EMPTY: Self = Self {
+        slots: 0,
+        full: 0,
+        tombstones: 0,
+    };
+}
+
 // The slot where a search found its id, if it did, and the slots that it visited.
 #[derive(Clone, Copy, PartialEq, Eq, Debug)]
 pub struct Search {

@@ -18,21 +18,14 @@ pub fn remove_at(words: &mut [u64], t: CapTable, i: usize) -> Removed
         };
     };
     put_mark(words, i);
-    if 1 < t.full {
-        let table = CapTable {
-            slots: t.slots,
+    let table = if 1 < t.full {
+        CapTable {
             full: t.full - 1,
             tombstones: t.tombstones + 1,
-        };
-        return Removed {
-            table,
-            left: Some(entry),
-        };
-    }
-    let table = CapTable {
-        slots: 0,
-        full: 0,
-        tombstones: 0,
+            ..t
+        }
+    } else {
+        CapTable::EMPTY
     };
     Removed {
         table,

@@ -37,10 +37,7 @@ fn has_id(words: &[u64], i: usize, kind: u64, id: u64) -> bool
     requires { (i < 512) × (4 * i + 3 < length words.now) }
     ensures { result ≡ both (eqb kind 2) (eqb (id_at words.now i) id) }
 {
-    if kind == FULL {
-        return id_at(words, i) == id;
-    }
-    false
+    kind == FULL && id_at(words, i) == id
 }
 
 // The search over n slots from slot `from` on.
@@ -50,8 +47,7 @@ fn find_from(words: &[u64], slots: usize, id: u64, from: usize, n: usize) -> Sea
     ensures { (result ≡ search_from words.now slots id from n) × (result.visits ≤ n) }
 {
     let mut i = from;
-    let mut passed = 0;
-    while passed < n {
+    for passed in 0..n {
         let kind = kind_at(words, i);
         if has_id(words, i, kind, id) {
             return Search {
@@ -66,7 +62,6 @@ fn find_from(words: &[u64], slots: usize, id: u64, from: usize, n: usize) -> Sea
             };
         }
         i = next(i, slots);
-        passed += 1;
     }
     Search {
         found: None,
@@ -100,10 +95,9 @@ pub fn find(words: &[u64], slots: usize, id: u64) -> Search
         };
     }
     let rest = find_from(words, slots, id, next(home, slots), slots - 1);
-    let found = rest.found;
     Search {
-        found,
         visits: rest.visits + 1,
+        ..rest
     }
 }
 
@@ -112,11 +106,8 @@ pub fn get(words: &[u64], slots: usize, id: u64) -> Option<CapabilityEntry>
     requires { (slots ≤ 512) × (4 * slots ≤ length words.now) }
     ensures { result ≡ got words.now slots id }
 {
-    let found = find(words, slots, id).found;
-    match found {
-        Some(i) => Some(entry_at(words, i)),
-        None => None,
-    }
+    let i = find(words, slots, id).found?;
+    Some(entry_at(words, i))
 }
 
 // The first slot that is not live on the walk of the id; where all are live, which no caller allows, its home.
@@ -125,13 +116,11 @@ pub fn free_for(words: &[u64], slots: usize, id: u64) -> usize
     ensures { (result ≡ free_for words.now slots id) × (result < slots) }
 {
     let mut i = home(id, slots);
-    let mut steps = 0;
-    while steps < slots {
+    for _ in 0..slots {
         if kind_at(words, i) != FULL {
             return i;
         }
         i = next(i, slots);
-        steps += 1;
     }
     i
 }

@@ -58,12 +58,10 @@ pub fn put_entry(words: &mut [u64], i: usize, entry: CapabilityEntry)
     ensures { words.new ≡ put_entry words.old i entry }
 {
     let at = 4 * i;
-    let capability = entry.capability;
-    let rights = entry.rights;
-    words[at] = capability.0;
+    words[at] = entry.capability.0;
     words[at + 1] = entry.object;
     words[at + 2] = entry.uses;
-    words[at + 3] = 0x2_0000_0000 + (rights.0 as u64);
+    words[at + 3] = 0x2_0000_0000 + entry.rights.0 as u64;
 }
 
 pub fn put_mark(words: &mut [u64], i: usize)

@@ -7,16 +7,15 @@ loop-i-init c = search copy_laws
 
 pub copy_entry-s-requires : goal.copy_entry-s-requires
 copy_entry-s-requires c =
-    (bounded_asks _ _ _ _ c.loop-i.invariant.2 (omega arith) (omega arith) (omega arith), omega arith)
+    (bounded_asks _ _ _ _ c.loop-i.invariant.1 (omega arith) (omega arith) (omega arith), omega arith)
 
 pub loop-i-preserved : goal.loop-i-preserved
 loop-i-preserved c =
     let inv = c.loop-i.invariant in
     let next = c.copy_entry-s.ensures in (
       omega arith,
-      omega arith,
-      bounded_goes _ _ _ _ inv.2 (omega arith) (omega arith) (omega arith) _ _ _ next,
-      copy_goes _ _ _ _ _ _ _ inv.3 (omega arith) c.entry_at.ensures next,
+      bounded_goes _ _ _ _ inv.1 (omega arith) (omega arith) (omega arith) _ _ _ next,
+      copy_goes _ _ _ _ _ _ _ inv.2 (omega arith) c.entry_at.ensures next,
     )
 
 pub returns : goal.returns

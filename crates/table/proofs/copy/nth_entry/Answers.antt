@@ -46,16 +46,13 @@ module _ (ws : List ℕ) (slots i past : ℕ) (answer : Option CapabilityEntry) 
       let none : slots - i ≡ 0 = omega arith in
       rw none at left
 
-ruleset nth_laws = (starts, passes, here, ends, rules)
-
-pub loop-i-preserved-in_default : goal.loop-i-preserved-in_default
-loop-i-preserved-in_default c = search nth_laws
+ruleset nth_laws = (starts, passes, counts, here, ends, rules)
 
 pub returns-then-past-eq0 : goal.returns-then-past-eq0
 returns-then-past-eq0 c = search nth_laws
 
 pub loop-i-preserved : goal.loop-i-preserved
-loop-i-preserved c = (search rules, search (counts _ _ _ _ _ c.loop-i.invariant.1))
+loop-i-preserved c = search nth_laws
 
 pub returns : goal.returns
 returns c = search nth_laws

@@ -1,15 +1,11 @@
 -- `table::insert::place_all` meets its contract. The invariant: placing the entries from i on into the words as they are by now gives
--- the whole. The measure is the entries that are left.
+-- the whole.
 use Rattle.std.proofs.Common.{◌≡◌, ◌-◌, ◌≤◌, length}
 use Rattle.table.specs.Insert.{scratch_entries, place_all}
 use Rattle.table.proofs.insert.place_all.Given as goal
 
 abbrev pub invariant-loop-i : goal.invariant-loop-i
 invariant-loop-i l =
-    (l.i ≤ l.count)
-    × (length l.words ≡ length l.initial.words)
+    (length l.words ≡ length l.initial.words)
     × (place_all (scratch_entries l.scratch l.i (l.count - l.i)) l.words l.slots
     ≡ place_all (scratch_entries l.scratch 0 l.count) l.initial.words l.slots)
-
-abbrev pub decreases-loop-i : goal.decreases-loop-i
-decreases-loop-i l = l.count - l.i

@@ -43,8 +43,8 @@ returns-then-t-gt1-clause-left_value c = search (stays, entry, rules)
 pub returns-then-t-gt1-clause-moved_value : goal.returns-then-t-gt1-clause-moved_value
 returns-then-t-gt1-clause-moved_value c = search (stays, entry, rules)
 
-pub returns-clause-left_value : goal.returns-clause-left_value
-returns-clause-left_value c = search (goes, entry, rules)
+pub returns-else-t-gt1-clause-left_value : goal.returns-else-t-gt1-clause-left_value
+returns-else-t-gt1-clause-left_value c = search (goes, entry, rules)
 
-pub returns-clause-moved_value : goal.returns-clause-moved_value
-returns-clause-moved_value c = search (goes, entry, rules)
+pub returns-else-t-gt1-clause-moved_value : goal.returns-else-t-gt1-clause-moved_value
+returns-else-t-gt1-clause-moved_value c = search (goes, entry, rules)

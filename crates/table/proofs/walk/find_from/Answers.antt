@@ -11,7 +11,7 @@ returns-then-has_id c = (search find_laws, search rules)
 pub loop-passed-preserved : goal.loop-passed-preserved
 loop-passed-preserved c =
     let some : c.kind_at-kind.result ≢ 0 = λ none. omega arith in
-    (search rules, search rules, search (find_laws, some))
+    (search rules, search (find_laws, some))
 
 pub returns : goal.returns
 returns c = (search find_laws, search rules)

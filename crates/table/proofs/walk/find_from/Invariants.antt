@@ -1,5 +1,5 @@
 -- `table::walk::find_from` meets its contract. The invariant: after `passed` visits the search goes on at slot i, and answers that many
--- visits more than the search from there on. The measure is the slots that are left.
+-- visits more than the search from there on.
 use Rattle.std.proofs.Common.{◌≡◌, ◌-◌, ◌<◌, ◌≤◌}
 use Rattle.table.specs.Walk.{search_from}
 use Rattle.table.proofs.CodeWalk.{later}
@@ -7,8 +7,5 @@ use Rattle.table.proofs.walk.find_from.Given as goal
 
 abbrev pub invariant-loop-passed : goal.invariant-loop-passed
 invariant-loop-passed l =
-    (l.passed ≤ l.n) × (l.i < l.slots) × (search_from l.words l.slots l.id l.from l.n
+    (l.i < l.slots) × (search_from l.words l.slots l.id l.from l.n
     ≡ later l.passed (search_from l.words l.slots l.id l.i (l.n - l.passed)))
-
-abbrev pub decreases-loop-passed : goal.decreases-loop-passed
-decreases-loop-passed l = l.n - l.passed

@@ -20,10 +20,10 @@ below : (ws : List ℕ) (slots id i : ℕ) (s : Search) → s ≡ searched ws sl
 below ws slots id i s r f = (search_at ws slots id i (sym (ap (λ (s : Search). s.found) r) ∙ f)).0
 
 pub entry_at-requires : goal.entry_at-requires
-entry_at-requires c = omega (arith, below _ _ _ _ _ c.find-found.ensures c.in-Some.is)
+entry_at-requires c = omega (arith, below _ _ _ _ _ c.find.ensures c.in_ok-i.was)
 
-pub returns-in-Some : goal.returns-in-Some
-returns-in-Some c = search entry
+pub returns-in_err-i : goal.returns-in_err-i
+returns-in_err-i c = c.from_residual.ensures ∙ nothing _ _ _ _ c.find.ensures c.in_err-i.was
 
-pub returns-in-None : goal.returns-in-None
-returns-in-None c = search nothing
+pub returns : goal.returns
+returns c = entry _ _ _ _ _ _ c.find.ensures c.in_ok-i.was c.entry_at.ensures
