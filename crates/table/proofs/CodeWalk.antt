@@ -1,12 +1,12 @@
 -- The turns of the loops that walk: where a walk stands after one step more, and what is left to count at each step.
-use Rattle.std.proofs.Common.{◌≡◌, refl, sym, ap, ◌∙◌, List, Bool, true, false, not, ℕ, ◌+◌, ◌-◌, ◌%◌, ◌<◌, ◌≤◌, add-zero, add_comm, mod-eq_of_lt, arith, rules, ne_eqb, lt-ltb, le-ltb, eqb, None, Some}
+use Rattle.std.proofs.Common.{◌≡◌, refl, sym, ap, ◌∙◌, List, Bool, true, false, not, ℕ, ◌+◌, ◌-◌, ◌%◌, ◌<◌, ◌≤◌, add-zero, add_comm, mod-eq_of_lt, arith, rules, eqb-true, lt-ltb, le-ltb, eqb, None, Some}
 use Rattle.std.proofs.Math.Decide.{dec_lt}
 use Rattle.std.proofs.Math.Logic.{by_cases}
 use Rattle.std.proofs.Math.Nat.{sub-zero, mod-add-mod}
 use Rattle.base.specs.Choose.{pick, both, both_left, both_right}
 use Rattle.base.specs.Below.{first_from, first}
 use Rattle.base.specs.FirstLaws.{first_is, first_after, first_up_start, first_up_found, first_up_next, first_up_done}
-use Rattle.table.specs.Slots.{kind_at, is_live, id_at}
+use Rattle.table.specs.Slots.{kind_at, is_empty, is_live, id_at}
 use Rattle.table.specs.Walk.{home_of, walk, stops, steps_to_stop, ended, search, search_from, steps_to_free, free_for}
 use Rattle.table.specs.declared.Search.{Search}
 use Rattle.table.proofs.laws.Walks.{walk_home, walk_next}
@@ -22,14 +22,18 @@ walk_steps id slots t i j e f = f ∙ ap (λ n. (n + 1) % slots) e ∙ sym (walk
 -- ---- the search
 
 -- A slot that is passed: it has not the id, and is not empty.
-passed_on :
-    (ws : List ℕ) (id i k : ℕ) (b : Bool) → k ≡ kind_at ws i → b ≡ both (eqb k 2) (eqb (id_at ws i) id) → b ≡ false → ¬ (k ≡ 0)
-    → stops ws id i ≡ false
-passed_on ws id i k b kind e no' some = rw (← kind) (go (eqb k 2) (sym e ∙ no'))
+passed_on : (ws : List ℕ) (id i : ℕ) → both (is_live ws i) (eqb (id_at ws i) id) ≡ false → is_empty ws i ≡ false → stops ws id i ≡ false
+passed_on ws id i other some = go (is_live ws i) other
   where
-    go : (c : Bool) → both c (eqb (id_at ws i) id) ≡ false → pick c (eqb (id_at ws i) id) (eqb k 0) ≡ false
+    go : (c : Bool) → both c (eqb (id_at ws i) id) ≡ false → pick c (eqb (id_at ws i) id) (is_empty ws i) ≡ false
     go true h = h
-    go false h = ne_eqb k 0 some
+    go false h = some
+
+-- An empty slot is not live.
+bare : (ws : List ℕ) (i : ℕ) → is_empty ws i ≡ true → is_live ws i ≡ false
+bare ws i empty =
+    let none = eqb-true (kind_at ws i) 0 empty in
+    rw none
 
 -- What a search answers that begins after p visits.
 unfoldable pub later : ℕ → Search → Search
@@ -74,28 +78,32 @@ module _ (ws : List ℕ) (slots id i n : ℕ) (l : i < slots) where
 module _ (ws : List ℕ) (slots id n passed i : ℕ) (s : Search) (left : s ≡ later passed (search_from ws slots id i (n - passed)))
     (l : i < slots)
   where
-    module _ (more : passed < n) (k : ℕ) (kind : k ≡ kind_at ws i) where
+    module _ (more : passed < n) where
       one_more : n - (passed + 1) + 1 ≡ n - passed
       one_more = omega arith
 
-      stopped : stops ws id i ≡ true → record { found = pick (eqb k 2) (Some i) None; visits = passed + 1 } ≡ s
+      stopped : stops ws id i ≡ true → record { found = pick (is_live ws i) (Some i) None; visits = passed + 1 } ≡ s
       unfolding later
-      stopped h = sym (left ∙ rw (← one_more, from_stops ws slots id i (n - (passed + 1)) l h, ← kind, add_comm 1 passed))
+      stopped h = sym (left ∙ rw (← one_more, from_stops ws slots id i (n - (passed + 1)) l h, add_comm 1 passed))
 
-      pub find_found : (b : Bool) → b ≡ both (eqb k 2) (eqb (id_at ws i) id) → b ≡ true → record { found = Some i; visits = passed + 1 } ≡ s
+      pub find_found : (b : Bool) → b ≡ both (is_live ws i) (eqb (id_at ws i) id) → b ≡ true
+          → record { found = Some i; visits = passed + 1 } ≡ s
       find_found b e yes' =
-          let two = both_left (eqb k 2) (eqb (id_at ws i) id) (sym e ∙ yes') in
-          let same = both_right (eqb k 2) (eqb (id_at ws i) id) (sym e ∙ yes') in
-          rw two at (stopped (rw (← kind, two) same))
+          let live = both_left (is_live ws i) (eqb (id_at ws i) id) (sym e ∙ yes') in
+          let same = both_right (is_live ws i) (eqb (id_at ws i) id) (sym e ∙ yes') in
+          rw live at (stopped (rw live same))
 
-      pub find_empty : k ≡ 0 → record { found = None; visits = passed + 1 } ≡ s
-      find_empty none = rw none at (stopped (rw (← kind, none)))
+      pub find_empty : (z : Bool) → z ≡ is_empty ws i → z ≡ true → record { found = None; visits = passed + 1 } ≡ s
+      find_empty z e yes' =
+          let none = bare ws i (sym e ∙ yes') in
+          rw none at (stopped (rw none (sym e ∙ yes')))
 
       pub find_goes :
-          (b : Bool) (j : ℕ) → b ≡ both (eqb k 2) (eqb (id_at ws i) id) → b ≡ false → ¬ (k ≡ 0) → j ≡ (i + 1) % slots
+          (b z : Bool) (j : ℕ) → b ≡ both (is_live ws i) (eqb (id_at ws i) id) → b ≡ false → z ≡ is_empty ws i → z ≡ false
+          → j ≡ (i + 1) % slots
           → s ≡ later (passed + 1) (search_from ws slots id j (n - (passed + 1)))
-      find_goes b j e no' some next =
-          let passes = passed_on ws id i k b kind e no' some in
+      find_goes b z j e no' f some next =
+          let passes = passed_on ws id i (sym e ∙ no') (sym f ∙ some) in
           left ∙ rw (← one_more, from_passes ws slots id i (n - (passed + 1)) l passes, ← next, later_later)
 
     pub find_ends : passed ≤ n → n ≤ passed → record { found = None; visits = n } ≡ s
@@ -123,20 +131,20 @@ module _ (ws : List ℕ) (slots id i : ℕ) (home : i ≡ home_of id slots) wher
   home_starts : search ws slots id ≡ later 0 (search_from ws slots id i (slots - 0))
   home_starts = rw (from_home, ← home) (find_starts ws slots id i slots)
 
-  module _ (l : i < slots) (k : ℕ) (kind : k ≡ kind_at ws i) where
-    pub home_found : (b : Bool) → b ≡ both (eqb k 2) (eqb (id_at ws i) id) → b ≡ true
+  module _ (l : i < slots) where
+    pub home_found : (b : Bool) → b ≡ both (is_live ws i) (eqb (id_at ws i) id) → b ≡ true
         → record { found = Some i; visits = 1 } ≡ search ws slots id
-    home_found = find_found ws slots id slots 0 i (search ws slots id) home_starts l (omega arith) k kind
+    home_found = find_found ws slots id slots 0 i (search ws slots id) home_starts l (omega arith)
 
-    pub home_empty : k ≡ 0 → record { found = None; visits = 1 } ≡ search ws slots id
-    home_empty = find_empty ws slots id slots 0 i (search ws slots id) home_starts l (omega arith) k kind
+    pub home_empty : (z : Bool) → z ≡ is_empty ws i → z ≡ true → record { found = None; visits = 1 } ≡ search ws slots id
+    home_empty = find_empty ws slots id slots 0 i (search ws slots id) home_starts l (omega arith)
 
     pub home_goes :
-        (b : Bool) (j : ℕ) (rest : Search) → b ≡ both (eqb k 2) (eqb (id_at ws i) id) → b ≡ false → ¬ (k ≡ 0) → j ≡ (i + 1) % slots
-        → rest ≡ search_from ws slots id j (slots - 1) → record { found = rest.found; visits = rest.visits + 1 } ≡ search ws slots id
+        (b z : Bool) (j : ℕ) (rest : Search) → b ≡ both (is_live ws i) (eqb (id_at ws i) id) → b ≡ false → z ≡ is_empty ws i → z ≡ false
+        → j ≡ (i + 1) % slots → rest ≡ search_from ws slots id j (slots - 1) → record { found = rest.found; visits = rest.visits + 1 } ≡ search ws slots id
     unfolding later
-    home_goes b j rest e no' some next answer =
-        sym (find_goes ws slots id slots 0 i (search ws slots id) home_starts l (omega arith) k kind b j e no' some next ∙ rw (← answer))
+    home_goes b z j rest e no' f some next answer =
+        sym (find_goes ws slots id slots 0 i (search ws slots id) home_starts l (omega arith) b z j e no' f some next ∙ rw (← answer))
 
 pub ruleset home_laws = (find_none, home_found, home_empty, home_goes, rules)
 
@@ -155,15 +163,15 @@ module _ (ws : List ℕ) (slots id : ℕ) where
   free_starts = first_up_start (is_free ws slots id) slots
 
   module _ (t i : ℕ) (left : steps_to_free ws slots id ≡ free_from ws slots id t) (w : i ≡ walk id slots t) where
-    pub free_goes : (k : ℕ) → t < slots → k ≡ kind_at ws i → k ≡ 2 → steps_to_free ws slots id ≡ free_from ws slots id (t + 1)
+    pub free_goes : (b : Bool) → t < slots → b ≡ is_live ws i → not b ≡ false → steps_to_free ws slots id ≡ free_from ws slots id (t + 1)
     unfolding free_from
-    free_goes k l e live = first_up_next (is_free ws slots id) slots t (steps_to_free ws slots id) left l (rw (← w, ← e, live))
+    free_goes b l e live = first_up_next (is_free ws slots id) slots t (steps_to_free ws slots id) left l (rw (← w, ← e) live)
 
-    pub free_stops : (k : ℕ) → t < slots → k ≡ kind_at ws i → ¬ (k ≡ 2) → i ≡ free_for ws slots id
+    pub free_stops : (b : Bool) → t < slots → b ≡ is_live ws i → not b ≡ true → i ≡ free_for ws slots id
     unfolding free_from free_for
-    free_stops k l e other =
+    free_stops b l e other =
         w ∙ ap (walk id slots) (first_up_found (is_free ws slots id) slots t (steps_to_free ws slots id) left l
-        (rw (← w, ← e, ne_eqb k 2 other)))
+        (rw (← w, ← e) other))
 
     pub free_ends : slots ≤ t → i ≡ free_for ws slots id
     unfolding free_from free_for

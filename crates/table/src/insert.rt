@@ -5,8 +5,8 @@ ghost use Rattle.table.specs.Slots.{id_of, is_removed};
 ghost use Rattle.table.specs.Insert.{crowded, slots_for, room_for, emptied, holds, gathered, scratch_entries, live_entries, place_all, rebuilt, enlarged, placed, insert_new, leaves, Insertable, Placeable};
 
 use super::walk::free_for;
-use super::words::{REMOVED, entry_at, kind_at, put_entry, slot_at};
-use super::{CapTable, CapabilityEntry, Inserted, Slot};
+use super::words::{entry_at, is_kind, put_entry, slot_at};
+use super::{CapTable, CapabilityEntry, Inserted, Kind, Slot};
 
 pub fn id_of(entry: CapabilityEntry) -> u64
     ensures { result ≡ id_of entry }
@@ -126,7 +126,7 @@ fn marks_left(words: &[u64], i: usize, tombstones: usize) -> usize
     requires { (i < 512) × (4 * i + 3 < length words.now) }
     ensures { result ≡ tombstones - one (is_removed words.now i) }
 {
-    tombstones.saturating_sub((kind_at(words, i) == REMOVED) as usize)
+    tombstones.saturating_sub(is_kind(words, i, Kind::Removed) as usize)
 }
 
 // The entry goes to the first free slot of its walk; a removed mark there is used up.

@@ -15,7 +15,7 @@ pub use insert::{gather, id_of, insert_new, slots_for};
 pub use remove::remove_at;
 use token::{CapabilityToken, Rights};
 pub use walk::{find, get};
-pub use words::{FULL, REMOVED, entry_at, id_at, kind_at, slot_at};
+pub use words::{entry_at, id_at, is_kind, slot_at};
 
 // A single capability entry.
 #[derive(Clone, Copy, PartialEq, Eq, Debug)]
@@ -25,6 +25,15 @@ pub struct CapabilityEntry {
     pub rights: Rights,
     // How often it was looked up.
     pub uses: u64,
+}
+
+// What the tag of a slot says of it. No sound table has a slot of an unlisted kind; a walk goes on past it.
+#[derive(Clone, Copy, PartialEq, Eq, Debug)]
+pub enum Kind {
+    Empty,
+    Removed,
+    Full,
+    Unlisted,
 }
 
 // One slot, with its entry where it holds one. A walk goes on past a removed entry's mark.

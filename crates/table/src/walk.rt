@@ -1,11 +1,11 @@
 // Walks over the slots: the search for an id, and the walk for a free place.
 ghost use Rattle.std.specs.Prelude.{◌≡◌, ◌+◌, ◌*◌, ◌%◌, ◌≤◌, ◌<◌, eqb, length};
 ghost use Rattle.base.specs.Choose.{both};
-ghost use Rattle.table.specs.Slots.{id_at};
+ghost use Rattle.table.specs.Slots.{id_at, is_live};
 ghost use Rattle.table.specs.Walk.{home_of, search, search_from, got, free_for};
 
-use super::words::{EMPTY, FULL, entry_at, id_at, kind_at};
-use super::{CapabilityEntry, Search};
+use super::words::{entry_at, id_at, is_kind};
+use super::{CapabilityEntry, Kind, Search};
 
 // Fibonacci hashing: ids come one after the other, so it spreads them. Slot counts are powers of two, where the remainder is a mask.
 pub fn home(id: u64, slots: usize) -> usize
@@ -32,12 +32,12 @@ pub fn next(i: usize, slots: usize) -> usize
     up
 }
 
-// Slot i, which is of that kind, is live and has that id.
-fn has_id(words: &[u64], i: usize, kind: u64, id: u64) -> bool
+// Slot i is live and has that id.
+fn has_id(words: &[u64], i: usize, id: u64) -> bool
     requires { (i < 512) × (4 * i + 3 < length words.now) }
-    ensures { result ≡ both (eqb kind 2) (eqb (id_at words.now i) id) }
+    ensures { result ≡ both (is_live words.now i) (eqb (id_at words.now i) id) }
 {
-    kind == FULL && id_at(words, i) == id
+    is_kind(words, i, Kind::Full) && id_at(words, i) == id
 }
 
 // The search over n slots from slot `from` on.
@@ -48,14 +48,13 @@ fn find_from(words: &[u64], slots: usize, id: u64, from: usize, n: usize) -> Sea
 {
     let mut i = from;
     for passed in 0..n {
-        let kind = kind_at(words, i);
-        if has_id(words, i, kind, id) {
+        if has_id(words, i, id) {
             return Search {
                 found: Some(i),
                 visits: passed + 1,
             };
         }
-        if kind == EMPTY {
+        if is_kind(words, i, Kind::Empty) {
             return Search {
                 found: None,
                 visits: passed + 1,
@@ -81,14 +80,13 @@ pub fn find(words: &[u64], slots: usize, id: u64) -> Search
         };
     }
     let home = home(id, slots);
-    let kind = kind_at(words, home);
-    if has_id(words, home, kind, id) {
+    if has_id(words, home, id) {
         return Search {
             found: Some(home),
             visits: 1,
         };
     }
-    if kind == EMPTY {
+    if is_kind(words, home, Kind::Empty) {
         return Search {
             found: None,
             visits: 1,
@@ -111,13 +109,14 @@ pub fn get(words: &[u64], slots: usize, id: u64) -> Option<CapabilityEntry>
 }
 
 // The first slot that is not live on the walk of the id; where all are live, which no caller allows, its home.
+#[tactic(auto, using(crate::proofs::CodeWalk::free_laws))]
 pub fn free_for(words: &[u64], slots: usize, id: u64) -> usize
     requires { (0 < slots) × (slots ≤ 512) × (4 * slots ≤ length words.now) }
     ensures { (result ≡ free_for words.now slots id) × (result < slots) }
 {
     let mut i = home(id, slots);
     for _ in 0..slots {
-        if kind_at(words, i) != FULL {
+        if !is_kind(words, i, Kind::Full) {
             return i;
         }
         i = next(i, slots);

@@ -1,22 +1,28 @@
 // The words of a slot, read and written.
 ghost use Rattle.std.specs.Prelude.{◌≡◌, ◌+◌, ◌*◌, ◌<◌, length};
-ghost use Rattle.table.specs.Slots.{kind_at, id_at, entry_at, slot_at, put_entry, put_mark};
+ghost use Rattle.table.specs.Slots.{kind_at, kind_of, is_kind, id_at, entry_at, slot_at, put_entry, put_mark};
 
-use super::{CapabilityEntry, Slot};
+use super::{CapabilityEntry, Kind, Slot};
 use token::{CapabilityToken, Rights};
 
-// The kinds of a slot.
-pub const EMPTY: u64 = 0;
-
-pub const REMOVED: u64 = 1;
-
-pub const FULL: u64 = 2;
-
-pub fn kind_at(words: &[u64], i: usize) -> u64
+fn kind_at(words: &[u64], i: usize) -> Kind
     requires { (i < 512) × (4 * i + 3 < length words.now) }
-    ensures { result ≡ kind_at words.now i }
+    ensures { result ≡ kind_of (kind_at words.now i) }
 {
-    words[4 * i + 3] / 0x1_0000_0000
+    match words[4 * i + 3] / 0x1_0000_0000 {
+        0 => Kind::Empty,
+        1 => Kind::Removed,
+        2 => Kind::Full,
+        _ => Kind::Unlisted,
+    }
+}
+
+// Whether slot i is of that kind.
+pub fn is_kind(words: &[u64], i: usize, kind: Kind) -> bool
+    requires { (i < 512) × (4 * i + 3 < length words.now) }
+    ensures { result ≡ is_kind kind (kind_at words.now i) }
+{
+    kind_at(words, i) == kind
 }
 
 pub fn id_at(words: &[u64], i: usize) -> u64
@@ -43,14 +49,11 @@ pub fn slot_at(words: &[u64], i: usize) -> Slot
     requires { (i < 512) × (4 * i + 3 < length words.now) }
     ensures { result ≡ slot_at words.now i }
 {
-    let kind = kind_at(words, i);
-    if kind == FULL {
-        return Slot::Full(entry_at(words, i));
+    match kind_at(words, i) {
+        Kind::Full => Slot::Full(entry_at(words, i)),
+        Kind::Empty => Slot::Empty,
+        Kind::Removed | Kind::Unlisted => Slot::Tombstone,
     }
-    if kind == EMPTY {
-        return Slot::Empty;
-    }
-    Slot::Tombstone
 }
 
 pub fn put_entry(words: &mut [u64], i: usize, entry: CapabilityEntry)

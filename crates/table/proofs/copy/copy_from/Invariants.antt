@@ -1,6 +1,6 @@
 -- `table::copy::copy_from` meets its contract. The invariant: copying the entries from i on, into the table as it is by now, gives the
 -- whole; and the table is bounded, so that the words lent suffice.
-use Rattle.std.proofs.Common.{◌≡◌, ◌-◌, ◌≤◌, length}
+use Rattle.std.proofs.Common.{◌≡◌, ◌-◌, length}
 use Rattle.table.specs.Insert.{scratch_entries, leaves}
 use Rattle.table.specs.Copy.{insert_all}
 use Rattle.table.proofs.CodeCopy.{Bounded}

@@ -1,5 +1,5 @@
 -- `table::insert::empty_slots` meets its contract. The invariant: the first i slots are emptied.
-use Rattle.std.proofs.Common.{◌≡◌, ◌-◌, ◌≤◌, length}
+use Rattle.std.proofs.Common.{◌≡◌, length}
 use Rattle.table.specs.Insert.{emptied}
 use Rattle.table.proofs.insert.empty_slots.Given as goal
 

@@ -1,6 +1,6 @@
 -- `table::insert::place_all` meets its contract. The invariant: placing the entries from i on into the words as they are by now gives
 -- the whole.
-use Rattle.std.proofs.Common.{◌≡◌, ◌-◌, ◌≤◌, length}
+use Rattle.std.proofs.Common.{◌≡◌, ◌-◌, length}
 use Rattle.table.specs.Insert.{scratch_entries, place_all}
 use Rattle.table.proofs.insert.place_all.Given as goal
 

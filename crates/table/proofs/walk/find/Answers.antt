@@ -8,8 +8,8 @@ returns-then-slots-eq0 c = search home_laws
 pub returns-then-has_id : goal.returns-then-has_id
 returns-then-has_id c = search home_laws
 
-pub returns-then-kind-eq-EMPTY : goal.returns-then-kind-eq-EMPTY
-returns-then-kind-eq-EMPTY c = search home_laws
+pub returns-then-is_kind : goal.returns-then-is_kind
+returns-then-is_kind c = search home_laws
 
 pub returns : goal.returns
 returns c = search home_laws

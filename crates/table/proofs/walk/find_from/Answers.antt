@@ -1,4 +1,4 @@
-use Rattle.std.proofs.Common.{◌≢◌, arith, rules}
+use Rattle.std.proofs.Common.{rules}
 use Rattle.table.proofs.CodeWalk.{find_laws}
 use Rattle.table.proofs.walk.find_from.Goals as goal
 
@@ -9,9 +9,7 @@ pub returns-then-has_id : goal.returns-then-has_id
 returns-then-has_id c = (search find_laws, search rules)
 
 pub loop-passed-preserved : goal.loop-passed-preserved
-loop-passed-preserved c =
-    let some : c.kind_at-kind.result ≢ 0 = λ none. omega arith in
-    (search rules, search (find_laws, some))
+loop-passed-preserved c = search find_laws
 
 pub returns : goal.returns
 returns c = (search find_laws, search rules)

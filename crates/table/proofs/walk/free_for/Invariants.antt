@@ -1,6 +1,6 @@
 -- `table::walk::free_for` meets its contract. The invariant: after so many steps the walk stands at slot i, and the steps to a free
 -- slot are those that are still to be counted.
-use Rattle.std.proofs.Common.{◌≡◌, ◌-◌, ◌<◌, ◌≤◌}
+use Rattle.std.proofs.Common.{◌≡◌, ◌<◌}
 use Rattle.table.specs.Walk.{walk, steps_to_free}
 use Rattle.table.proofs.CodeWalk.{free_from}
 use Rattle.table.proofs.walk.free_for.Given as goal
