@@ -1,30 +1,23 @@
 // Whether a table is sound: document 01's rules of one table, with a pass over its slots and a search of each live one's id.
 #![tactic(auto)]
 
-ghost use Rattle.std.specs.Prelude.{true, ◌≡◌, ◌+◌, ◌*◌, ◌≤◌, ◌<◌, eqb, ltb, length, get_or};
+ghost use Rattle.std.specs.Prelude.{true, ◌≡◌, ◌+◌, ◌*◌, ◌≤◌, ◌<◌, ltb, length, get_or};
 ghost use Rattle.base.specs.Below.{all, one};
 ghost use Rattle.base.specs.Choose.{both};
-ghost use Rattle.table.specs.Slots.{kind_at};
+ghost use Rattle.table.specs.Slots.{kind_at, is_kind};
 ghost use Rattle.table.specs.Insert.{slots_for};
-ghost use Rattle.table.specs.Sound.{ends_at, ends_here, coded_at, coded_test, capacity_test, agree_test, room_test, unused_test, most_test, found_test, live_slots, sound_test};
+ghost use Rattle.table.specs.Sound.{ends_here, coded_at, coded_test, capacity_test, agree_test, room_test, unused_test, most_test, found_test, live_slots, sound_test};
 
-use table::{CapTable, FULL, REMOVED, find, id_at, kind_at, slots_for};
+use table::{CapTable, Kind, find, id_at, is_kind, slots_for};
 
 // 0 slots or a power of two from 8 to the most that there can be.
 fn is_capacity(slots: usize, most: usize) -> bool
     requires { most ≤ 256 }
     ensures { result ≡ capacity_test most slots }
 {
-    if slots == 0 {
-        return true;
-    }
-    if slots < 8 {
-        return false;
-    }
-    if slots_for(most) < slots {
-        return false;
-    }
-    base::arith::next_power_of_two(slots as u64) == slots as u64
+    slots == 0
+        || (8..=slots_for(most)).contains(&slots)
+            && base::arith::next_power_of_two(slots as u64) == slots as u64
 }
 
 // The counts among themselves. They may be any numbers, so each is held to a bound of its own before the sum is made.
@@ -32,28 +25,10 @@ fn counts_fit(t: CapTable, most: usize) -> bool
     requires { (t.slots ≤ 512) × (most ≤ 256) }
     ensures { result ≡ both (room_test t) (both (unused_test t) (most_test most t)) }
 {
-    if most < t.full {
-        return false;
-    }
-    if t.slots < t.tombstones {
-        return false;
-    }
-    if 3 * t.slots < 4 * (t.full + t.tombstones) {
-        return false;
-    }
-    if t.full == 0 {
-        return t.slots == 0;
-    }
-    true
-}
-
-fn ends_at(found: Option<usize>, i: usize) -> bool
-    ensures { result ≡ ends_at found i }
-{
-    match found {
-        Some(j) => j == i,
-        None => false,
-    }
+    t.full <= most
+        && t.tombstones <= t.slots
+        && 4 * (t.full + t.tombstones) <= 3 * t.slots
+        && (t.full != 0 || t.slots == 0)
 }
 
 // The search of the id in slot i ends at slot i.
@@ -61,19 +36,15 @@ fn is_found(words: &[u64], slots: usize, i: usize) -> bool
     requires { (slots ≤ 512) × (4 * slots ≤ length words.now) × (i < slots) }
     ensures { result ≡ ends_here words.now slots i }
 {
-    let found = find(words, slots, id_at(words, i)).found;
-    ends_at(found, i)
+    find(words, slots, id_at(words, i)).found == Some(i)
 }
 
 // 1 for a slot of that kind, 0 for any other.
-pub fn one_of(words: &[u64], i: usize, kind: u64) -> usize
+pub fn one_of(words: &[u64], i: usize, kind: Kind) -> usize
     requires { (i < 512) × (4 * i + 3 < length words.now) }
-    ensures { (result ≡ one (eqb (kind_at words.now i) kind)) × (result ≤ 1) }
+    ensures { (result ≡ one (is_kind kind (kind_at words.now i))) × (result ≤ 1) }
 {
-    if kind_at(words, i) == kind {
-        return 1;
-    }
-    0
+    is_kind(words, i, kind) as usize
 }
 
 // 1 for a slot of a listed kind, 0 for any other.
@@ -81,10 +52,7 @@ fn one_coded(words: &[u64], i: usize) -> usize
     requires { (i < 512) × (4 * i + 3 < length words.now) }
     ensures { (result ≡ one (coded_at words.now i)) × (result ≤ 1) }
 {
-    if kind_at(words, i) <= FULL {
-        return 1;
-    }
-    0
+    !is_kind(words, i, Kind::Unlisted) as usize
 }
 
 // Whether the kinds are listed ones and agree with the counts. The numbers of the live slots are written one after the other: kinds
@@ -94,25 +62,16 @@ fn kinds_sound(words: &[u64], t: CapTable, live: &mut [u16; 512]) -> bool
     ensures value { result ≡ both (coded_test words.now t.slots) (agree_test words.now t) }
     ensures live_after { live.new ≡ live_slots words.now t.slots live.old }
 {
-    let slots = t.slots;
     let mut n = 0;
     let mut removed = 0;
     let mut coded = 0;
-    let mut i = 0;
-    while i < slots {
+    for i in 0..t.slots {
         live[n] = i as u16;
-        n += one_of(words, i, FULL);
-        removed += one_of(words, i, REMOVED);
+        n += one_of(words, i, Kind::Full);
+        removed += one_of(words, i, Kind::Removed);
         coded += one_coded(words, i);
-        i += 1;
     }
-    if coded != slots {
-        return false;
-    }
-    if n != t.full {
-        return false;
-    }
-    removed == t.tombstones
+    coded == t.slots && n == t.full && removed == t.tombstones
 }
 
 // The search of the id in each of these slots ends at that slot.
@@ -121,11 +80,8 @@ fn all_found(words: &[u64], slots: usize, live: &[u16]) -> bool
     requires slots_value { all (length live.now) (λ j. ltb (get_or live.now j 0) slots) ≡ true }
     ensures { result ≡ all (length live.now) (λ j. ends_here words.now slots (get_or live.now j 0)) }
 {
-    let mut j = 0;
-    while j < live.len() {
-        if is_found(words, slots, live[j] as usize) {
-            j += 1;
-        } else {
+    for i in live {
+        if !is_found(words, slots, *i as usize) {
             return false;
         }
     }
@@ -140,11 +96,7 @@ fn slots_sound(words: &[u64], t: CapTable) -> bool
         (both (agree_test words.now t) (found_test words.now t.slots)) }
 {
     let mut live = [0u16; 512];
-    if !kinds_sound(words, t, &mut live) {
-        return false;
-    }
-    let n = t.full;
-    all_found(words, t.slots, &live[..n])
+    kinds_sound(words, t, &mut live) && all_found(words, t.slots, &live[..t.full])
 }
 
 // The capacity comes first: it keeps everything after it in range.
@@ -152,11 +104,5 @@ pub fn is_sound(words: &[u64], t: CapTable, most: usize) -> bool
     requires { (most ≤ 256) × (4 * slots_for most ≤ length words.now) }
     ensures { result ≡ sound_test most words.now t }
 {
-    if !is_capacity(t.slots, most) {
-        return false;
-    }
-    if !counts_fit(t, most) {
-        return false;
-    }
-    slots_sound(words, t)
+    is_capacity(t.slots, most) && counts_fit(t, most) && slots_sound(words, t)
 }

@@ -44,12 +44,10 @@ fn keep(table: CapTable, moved: usize, numbers: &mut [usize; 4])
 fn put(entry: CapabilityEntry, out: &mut [u64; 4])
     ensures { out.new ≡ entry_words out.old entry }
 {
-    let capability = entry.capability;
-    let rights = entry.rights;
-    out[0] = capability.0;
+    out[0] = entry.capability.0;
     out[1] = entry.object;
     out[2] = entry.uses;
-    out[3] = rights.0 as u64;
+    out[3] = entry.rights.0 as u64;
 }
 
 // The entry, if there is one, over the four words.
@@ -71,16 +69,9 @@ pub extern "C" fn table_probe_find(words: &[u64], slots: usize, id: u64) -> Ende
     ensures { result ≡ ended (search words.now slots id) }
 {
     let s = find(words, slots, id);
-    let found = s.found;
-    match found {
-        Some(i) => Ended {
-            at: i,
-            visits: s.visits,
-        },
-        None => Ended {
-            at: 0xFFFF_FFFF_FFFF_FFFF,
-            visits: s.visits,
-        },
+    Ended {
+        at: s.found.unwrap_or(usize::MAX),
+        visits: s.visits,
     }
 }
 
@@ -102,13 +93,7 @@ pub extern "C" fn table_probe_nth_entry(
     requires { (slots ≤ 512) × (4 * slots ≤ length words.now) }
     ensures { answers result out.new ≡ nth_words out.old (nth_of (live_entries words.now 0 slots) n) }
 {
-    match nth_entry(words, slots, n) {
-        Some(entry) => {
-            put(entry, out);
-            true
-        }
-        None => false,
-    }
+    put_got(nth_entry(words, slots, n), out)
 }
 
 #[unsafe(no_mangle)]
@@ -132,8 +117,7 @@ pub extern "C" fn table_probe_insert_new(
         uses,
     };
     let s = insert_new(words, counts(numbers), entry);
-    let table = s.table;
-    keep(table, s.moved, numbers);
+    keep(s.table, s.moved, numbers);
 }
 
 #[unsafe(no_mangle)]
@@ -149,10 +133,8 @@ pub extern "C" fn table_probe_remove_at(
     ensures out_after { answers result out.new ≡ got_words out.old (held_at words.old i) }
 {
     let s = remove_at(words, counts(numbers), i);
-    let table = s.table;
-    let gone = s.left;
-    keep(table, 0, numbers);
-    put_got(gone, out)
+    keep(s.table, 0, numbers);
+    put_got(s.left, out)
 }
 
 // The live entries, in slot order, into the scratch: the first half of a copy.
@@ -182,8 +164,7 @@ pub extern "C" fn table_probe_copy_from(
         (insert_all (scratch_entries scratch.now 0 count) (record { words = words.old; counts = none; moved = 0 })) }
 {
     let s = copy_from(words, scratch, count);
-    let table = s.table;
-    keep(table, s.moved, numbers);
+    keep(s.table, s.moved, numbers);
 }
 
 #[unsafe(no_mangle)]

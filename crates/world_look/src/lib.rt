@@ -64,7 +64,7 @@ fn live_ids(words: &[u64], slots: usize, ids: &mut [u64; 512]) -> usize
         let entry = table::entry_at(words, i);
         let capability = entry.capability;
         ids[n] = capability.id();
-        n += table_look::one_of(words, i, table::FULL);
+        n += table_look::one_of(words, i, table::Kind::Full);
         i += 1;
     }
     n

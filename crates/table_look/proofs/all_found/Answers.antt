@@ -15,14 +15,14 @@ module _ (ws : List ℕ) (slots : ℕ) (live : List ℕ) (j i : ℕ) (this : i �
 
 ruleset laws = (rules, all_tests, below, tested)
 
-pub loop-j-init : goal.loop-j-init
-loop-j-init c = search laws
+pub loop-i-init : goal.loop-i-init
+loop-i-init c = search laws
 
 pub is_found-requires : goal.is_found-requires
 is_found-requires c = search laws
 
-pub loop-j-preserved : goal.loop-j-preserved
-loop-j-preserved c = search laws
+pub loop-i-preserved : goal.loop-i-preserved
+loop-i-preserved c = search laws
 
-pub returns-else-is_found : goal.returns-else-is_found
-returns-else-is_found c = search laws
+pub returns-then-not-is_found : goal.returns-then-not-is_found
+returns-then-not-is_found c = search laws

@@ -1,4 +1,4 @@
-use Rattle.std.proofs.Common.{◌≡◌, refl, ◌∙◌, Bool, false, List, ◌≢◌, ℕ, ◌+◌, ◌≤◌, ◌<◌, le_antisymm, arith, rules, eq-eqb, ne_eqb, eqb, set}
+use Rattle.std.proofs.Common.{◌≡◌, refl, ◌∙◌, ⊎_elim, Bool, List, ◌≢◌, ℕ, ◌+◌, ◌≤◌, ◌<◌, le_antisymm, arith, rules, eq-eqb, ne_eqb, eqb, set}
 use Rattle.base.specs.Choose.{both}
 use Rattle.base.specs.Below.{sum, one}
 use Rattle.base.specs.Compacted.{all_passing, compact_starts, compact_goes}
@@ -7,6 +7,7 @@ use Rattle.table.specs.Slots.{is_live, is_removed}
 use Rattle.table.specs.Sound.{coded_at, coded_test, agree_test, live_slots}
 use Rattle.table.specs.declared.CapTable.{CapTable}
 use Rattle.table_look.proofs.kinds_sound.Invariants.{Done}
+use Rattle.table_look.proofs.kinds_sound.Goals.{then-coded-t, else-coded-t}
 use Rattle.table_look.proofs.kinds_sound.Goals as goal
 
 starts : (ws : List ℕ) (slots : ℕ) (xs : List ℕ) → Done ws slots xs xs 0 0 0 0
@@ -51,18 +52,18 @@ module _ (ws : List ℕ) (t : CapTable) (xs₀ xs : List ℕ) (n removed coded i
     coded_tested : coded_test ws t.slots ≡ eqb coded t.slots
     coded_tested = all_passing (coded_at ws) t.slots ∙ rw (← all_done.coded_is)
 
-    unlisted : coded ≢ t.slots → false ≡ passes
-    unlisted d = rw (coded_tested, ne_eqb coded t.slots d)
+    unlisted : (v : Bool) → v ≡ eqb coded t.slots → coded ≢ t.slots → v ≡ passes
+    unlisted v e d = rw (e, coded_tested, ne_eqb coded t.slots d)
 
     module _ (all_coded : coded ≡ t.slots) where
-      miscounted : n ≢ t.full → false ≡ passes
-      miscounted d = rw (coded_tested, eq-eqb coded t.slots all_coded, ← all_done.live.passed, ne_eqb n t.full d)
+      miscounted : (v : Bool) → v ≡ eqb n t.full → n ≢ t.full → v ≡ passes
+      miscounted v e d = rw (e, coded_tested, eq-eqb coded t.slots all_coded, ← all_done.live.passed, ne_eqb n t.full d)
 
       counted : n ≡ t.full → eqb removed t.tombstones ≡ passes
       counted e =
           rw (coded_tested, eq-eqb coded t.slots all_coded, ← all_done.live.passed, eq-eqb n t.full e, ← all_done.removed_is)
 
-ruleset laws = (rules, starts, goes)
+ruleset laws = (rules, starts, goes, written, unlisted, miscounted, counted)
 
 pub loop-i-init : goal.loop-i-init
 loop-i-init c = search laws
@@ -70,27 +71,18 @@ loop-i-init c = search laws
 pub loop-i-preserved : goal.loop-i-preserved
 loop-i-preserved c = search laws
 
-pub returns-then-coded-slots-clause-live_after : goal.returns-then-coded-slots-clause-live_after
-returns-then-coded-slots-clause-live_after c =
-    let past = c.loop-i-test.false in
-    let done = c.loop-i.invariant in written _ _ _ _ _ _ _ _ done past
-
-pub returns-then-coded-slots-clause-value : goal.returns-then-coded-slots-clause-value
-returns-then-coded-slots-clause-value c =
-    let past = c.loop-i-test.false in
-    let done = c.loop-i.invariant in unlisted _ _ _ _ _ _ _ _ done past c.if-coded-slots.true
-
 pub returns-then-n-t-clause-live_after : goal.returns-then-n-t-clause-live_after
-returns-then-n-t-clause-live_after c =
-    let past = c.loop-i-test.false in
-    let done = c.loop-i.invariant in written _ _ _ _ _ _ _ _ done past
+returns-then-n-t-clause-live_after c = search laws
 
-pub returns-clause-live_after : goal.returns-clause-live_after
-returns-clause-live_after c =
-    let past = c.loop-i-test.false in
-    let done = c.loop-i.invariant in written _ _ _ _ _ _ _ _ done past
+pub returns-then-n-t-clause-value : goal.returns-then-n-t-clause-value
+returns-then-n-t-clause-value c = search laws
 
-pub returns-clause-value : goal.returns-clause-value
-returns-clause-value c =
-    let past = c.loop-i-test.false in
-    let done = c.loop-i.invariant in counted _ _ _ _ _ _ _ _ done past c.if-coded-slots.false c.if-n-t.false
+pub returns-else-n-t-clause-live_after : goal.returns-else-n-t-clause-live_after
+returns-else-n-t-clause-live_after c = search laws
+
+pub returns-else-n-t-clause-value : goal.returns-else-n-t-clause-value
+returns-else-n-t-clause-value c =
+    elim c.if-coded-t.branch [
+    then-coded-t w ↦ ⊎_elim (λ (all, other). search (laws, all, other)) (λ other. absurd (other w.if-coded-t.true)) c.if-n-t.either
+    | else-coded-t w ↦ search laws
+    ]

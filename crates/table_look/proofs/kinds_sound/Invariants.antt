@@ -1,6 +1,6 @@
 -- `table_look::kinds_sound` meets its contract. The invariant: the first i slots are counted by kind, and the numbers of the live ones
--- are written. The measure is the slots that are left.
-use Rattle.std.proofs.Common.{◌≡◌, List, ℕ, ◌-◌, ◌≤◌}
+-- are written.
+use Rattle.std.proofs.Common.{◌≡◌, List, ℕ, ◌≤◌}
 use Rattle.base.specs.Compacted.{passing, Compacting}
 use Rattle.table.specs.Slots.{is_live, is_removed}
 use Rattle.table.specs.Sound.{coded_at}
@@ -15,7 +15,4 @@ pub record Done (ws : List ℕ) (slots : ℕ) (xs₀ xs : List ℕ) (n removed c
   pub coded_is : coded ≡ passing (coded_at ws) i
 
 abbrev pub invariant-loop-i : goal.invariant-loop-i
-invariant-loop-i l = Done l.words l.slots l.initial.live l.live l.n l.removed l.coded l.i
-
-abbrev pub decreases-loop-i : goal.decreases-loop-i
-decreases-loop-i l = l.slots - l.i
+invariant-loop-i l = Done l.words l.t.slots l.initial.live l.live l.n l.removed l.coded l.i

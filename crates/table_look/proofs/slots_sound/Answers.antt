@@ -1,7 +1,6 @@
 -- `table_look::slots_sound` meets its contract: the listed slots are the live ones, so that their searches are those of `found_test`.
-use Rattle.std.proofs.Common.{◌≡◌, refl, sym, ap, ◌∙◌, Bool, true, false, not, List, ℕ, ◌≤◌, ◌<◌, arith, eqb-true, lt-ltb, eqb, ltb, length, get_or, take, replicate, length-take-le, get_or-take}
+use Rattle.std.proofs.Common.{◌≡◌, refl, sym, ap, ◌∙◌, Bool, true, false, List, ℕ, ◌≤◌, ◌<◌, arith, eqb-true, lt-ltb, eqb, ltb, length, get_or, take, replicate, length-take-le, get_or-take}
 use Rattle.std.proofs.Math.ListN.{length-replicate}
-use Rattle.std.proofs.lemmas.Bool.{not-false}
 use Rattle.base.specs.Below.{all}
 use Rattle.base.specs.AllLaws.{all_make, all_ext}
 use Rattle.base.specs.Choose.{pick, both, both_left, both_right}
@@ -22,14 +21,14 @@ abbrev passes : List ℕ → CapTable → Bool
 passes ws t = both (coded_test ws t.slots) (both (agree_test ws t) (found_test ws t.slots))
 
 -- What is known where the kinds are sound: xs are the numbers of the live slots, and there are n of them.
-module _ (ws : List ℕ) (t : CapTable) (few : t.slots ≤ 512) (r : Bool) (e : r ≡ kinds ws t) (good : not r ≡ false) (xs : List ℕ)
+module _ (ws : List ℕ) (t : CapTable) (few : t.slots ≤ 512) (r : Bool) (e : r ≡ kinds ws t) (good : r ≡ true) (xs : List ℕ)
     (written : xs ≡ live_slots ws t.slots zeros)
   where
     counts : agree_test ws t ≡ true
-    counts = both_right (coded_test ws t.slots) (agree_test ws t) (sym e ∙ not-false r good)
+    counts = both_right (coded_test ws t.slots) (agree_test ws t) (sym e ∙ good)
 
     coded : coded_test ws t.slots ≡ true
-    coded = both_left (coded_test ws t.slots) (agree_test ws t) (sym e ∙ not-false r good)
+    coded = both_left (coded_test ws t.slots) (agree_test ws t) (sym e ∙ good)
 
     live_is : passing (is_live ws) t.slots ≡ t.full
     live_is =
@@ -67,18 +66,18 @@ module _ (ws : List ℕ) (t : CapTable) (few : t.slots ≤ 512) (r : Bool) (e : 
 
 pub slice_bounds-live-end : goal.slice_bounds-live-end
 slice_bounds-live-end c =
-    let called = c.kinds_sound.ensures in fits _ _ (omega arith) _ called.value (ap not c.if-not-kinds_sound.false) _ called.live_after
+    let called = c.kinds_sound.ensures in fits _ _ (omega arith) _ called.value c.if-kinds_sound.true _ called.live_after
 
 pub slice_bounds-all_found-end : goal.slice_bounds-all_found-end
 slice_bounds-all_found-end c =
     let called = c.kinds_sound.ensures in sym
-    (taken _ _ (omega arith) _ called.value (ap not c.if-not-kinds_sound.false) _ called.live_after)
+    (taken _ _ (omega arith) _ called.value c.if-kinds_sound.true _ called.live_after)
 
 pub all_found-requires-clause-slots_value : goal.all_found-requires-clause-slots_value
 all_found-requires-clause-slots_value c =
-    let called = c.kinds_sound.ensures in below _ _ (omega arith) _ called.value (ap not c.if-not-kinds_sound.false) _ called.live_after
+    let called = c.kinds_sound.ensures in below _ _ (omega arith) _ called.value c.if-kinds_sound.true _ called.live_after
 
-pub returns : goal.returns
-returns c =
+pub returns-then-kinds_sound : goal.returns-then-kinds_sound
+returns-then-kinds_sound c =
     let called = c.kinds_sound.ensures in
-    decides _ _ (omega arith) _ called.value (ap not c.if-not-kinds_sound.false) _ called.live_after _ c.all_found.ensures
+    decides _ _ (omega arith) _ called.value c.if-kinds_sound.true _ called.live_after _ c.all_found.ensures
