@@ -1,7 +1,7 @@
 // The look over the memory that every call takes first: whether it is sound, by document 01's rules.
 #![tactic(auto)]
 
-ghost use Rattle.std.specs.Prelude.{◌≡◌, true, ◌+◌, ◌*◌, ◌<◌, ◌≤◌, length};
+ghost use Rattle.std.specs.Prelude.{◌≡◌, true, ◌+◌, ◌*◌, ◌^◌, ◌<◌, ◌≤◌, length};
 ghost use Rattle.registry.specs.Counts.{AtMost};
 ghost use Rattle.space.specs.Sound.{space_test};
 ghost use Rattle.space.specs.Words.{table_of, slot_words};

@@ -1,10 +1,11 @@
 -- What is lent is the registry. Its rules give the index of its ids, the index the count of the spaces' entries, the count the holders'
 -- rule.
-use Rattle.std.proofs.Common.{Bool, true, false, List, ◌≡◌, sym, ◌∙◌, ℕ, ◌+◌, ◌-◌, ◌*◌, ◌≤◌, arith, length, get_or, take, drop, length-take-le}
-use Rattle.base.specs.Chain.{Chained}
+use Rattle.std.proofs.Common.{Bool, true, false, List, ◌≡◌, refl, sym, ◌∙◌, ℕ, ◌+◌, ◌-◌, ◌*◌, ◌^◌, ◌<◌, ◌≤◌, arith, length, get_or, take, drop, length-take-le, replicate}
+use Rattle.std.proofs.lemmas.List.{length-replicate}
+use Rattle.base.specs.Chain.{Chained, chained_none}
 use Rattle.base.specs.Choose.{both_left}
 use Rattle.base.specs.Distinct.{all_different, differ_test, differ_take}
-use Rattle.registry.specs.Counts.{AtMost}
+use Rattle.registry.specs.Counts.{at_most_none}
 use Rattle.registry.specs.Sound.{registry_test, within_test}
 use Rattle.registry.specs.Words.{id_at, state_at}
 use Rattle.world_look.specs.Look.{Looked, looked_none, held_by_tally}
@@ -15,29 +16,23 @@ use Rattle.world.specs.SoundLaws.{Headed}
 use Rattle.world.specs.Views.{length_view, lent_view}
 use Rattle.world.specs.declared.Numbers.{Numbers}
 use Rattle.world.proofs.Tests.{fails, passes}
+use Rattle.world_look.proofs.holdings_by.Given.{Over}
 use Rattle.world_look.proofs.holdings_by.Goals as goal
 use Rattle.world_look.proofs.holdings_by.Goals.{After-registry_at-start}
 
 -- What is known once the registry's start is.
-record Placed (d : Numbers) (mem heads prevs counts : List ℕ) (start : ℕ) : Type 0 where
+record Placed (d : Numbers) (mem : List ℕ) (room start : ℕ) : Type 0 where
   head : Headed d mem
-  unindexed : Chained (registered_ids d mem) heads prevs 0
-  room : registered_of mem ≤ length counts
-  uncounted : AtMost 0 counts
+  enough : registered_of mem ≤ room
   start_is : start ≡ start_of d registry
 
-placed :
-    (c : After-registry_at-start)
-    → Placed c.args.d c.args.mem.now c.args.heads.now c.args.prevs.now
-    c.args.counts.now c.registry_at-start.result
-placed c =
-    let head = c.requires.headed in
-    let unindexed = c.requires.chained in
-    let (room, uncounted) = c.requires.mem_in_bounds in
-    record { head = head; unindexed = unindexed; room = room; uncounted = uncounted; start_is = c.registry_at-start.ensures.is }
+placed : (g : Over) (c : After-registry_at-start g) → Placed c.args.d c.args.mem.now g.row.N c.registry_at-start.result
+placed g c =
+    let (head, enough) = c.requires.headed in
+    record { head = head; enough = enough; start_is = c.registry_at-start.ensures.is }
 
 -- ---- the tests, in the code's order
-module _ {d : Numbers} {mem heads prevs counts₀ : List ℕ} {start : ℕ} (p : Placed d mem heads prevs counts₀ start) where
+module _ {d : Numbers} {mem : List ℕ} {room start : ℕ} (p : Placed d mem room start) where
   abbrev rg : List ℕ
   rg = take ((start + 5 * d.places + 1) - start) (drop start mem)
 
@@ -53,8 +48,11 @@ module _ {d : Numbers} {mem heads prevs counts₀ : List ℕ} {start : ℕ} (p :
   ids_fit : registered_of mem ≤ length rg
   ids_fit = omega (arith, long, p.head.registered_fit)
 
-  no_index : Chained ids heads prevs 0
-  no_index = rw rg_is p.unindexed
+  ids_long : length ids ≡ registered_of mem
+  ids_long = length-take-le (registered_of mem) rg ids_fit
+
+  no_index : (buckets : ℕ) → 0 < buckets → buckets ≤ 2 ^ 32 → Chained ids (replicate buckets 0) (replicate room 0) 0
+  no_index buckets some few = chained_none ids _ buckets some few (rw length-replicate (omega (arith, ids_long, p.enough)))
 
   module _ {r : Bool} (e : r ≡ registry_test d.places (registered_of mem) (recycled_of mem) (next_of mem) rg) where
     ids_tested : r ≡ ids_test d mem
@@ -71,9 +69,9 @@ module _ {d : Numbers} {mem heads prevs counts₀ : List ℕ} {start : ℕ} (p :
           differ_take (registered_of mem) rg ids_fit
           ∙ both_left (differ_test (registered_of mem) (id_at rg)) _ (sym e ∙ t)
 
-      counts_none : Looked d mem ids 0 counts₀
+      counts_none : Looked d mem ids 0 (replicate room 0)
       counts_none =
-          looked_none d mem ids counts₀ different (omega (arith, length-take-le (registered_of mem) rg ids_fit, p.room)) p.uncounted
+          looked_none d mem ids _ different (rw length-replicate (omega (arith, ids_long, p.enough))) (at_most_none room)
 
       module _ {s : Bool} (f : s ≡ spaces_test d mem) where
         spaces_fail : s ≡ false → false ≡ holdings_test d mem
@@ -95,29 +93,29 @@ module _ {d : Numbers} {mem heads prevs counts₀ : List ℕ} {start : ℕ} (p :
 
 pub bounds-mem-11 : goal.bounds-mem-11
 unfolding length_for
-bounds-mem-11 c = omega arith
+bounds-mem-11 g c = omega arith
 
 pub bounds-mem-12 : goal.bounds-mem-12
 unfolding length_for
-bounds-mem-12 c = omega arith
+bounds-mem-12 g c = omega arith
 
-pub returns-then-not-registry_sound : goal.returns-then-not-registry_sound
-returns-then-not-registry_sound c =
-    ids_fail (placed (goal.at.returns-then-not-registry_sound c).After-registry_at-start) c.registry_sound.ensures.value
-    c.if-not-registry_sound.true
+pub registry_sound-indexed-requires-clause-chained : goal.registry_sound-indexed-requires-clause-chained
+registry_sound-indexed-requires-clause-chained g c =
+    no_index (placed g (goal.at.registry_sound-indexed-requires-clause-chained g c).After-registry_at-start) g.row.H (omega arith) (omega arith)
+
+pub returns-in_default : goal.returns-in_default
+returns-in_default g c = ids_fail (placed g (goal.at.returns-in_default g c).After-registry_at-start) c.in_default.ensures.value refl
 
 pub spaces_sound-requires-clause-looked : goal.spaces_sound-requires-clause-looked
-spaces_sound-requires-clause-looked c =
-    let p = placed (goal.at.spaces_sound-requires-clause-looked c).After-registry_at-start in
-    let told = c.registry_sound.ensures.value in
-    let index = c.registry_sound.ensures.chained_2 in
-    let passed = c.if-not-registry_sound.false in counts_none p told passed
+spaces_sound-requires-clause-looked g c =
+    let p = placed g (goal.at.spaces_sound-requires-clause-looked g c).After-registry_at-start in
+    let index = c.in-Some.ensures in
+    rw index.indexed (counts_none p index.value refl)
 
-pub returns : goal.returns
-returns c =
-    let passed = c.if-not-registry_sound.false in
-    let told = c.spaces_sound.ensures.value in
-    let tally = c.spaces_sound.ensures.looked_2 in
-    let still = c.if-not-spaces_sound.false in
-    holders_decide (placed (goal.at.returns c).After-registry_at-start) c.registry_sound.ensures.value passed told still (tally still)
-    c.holders_within.ensures
+pub returns-then-spaces_sound : goal.returns-then-spaces_sound
+returns-then-spaces_sound g c =
+    let p = placed g (goal.at.returns-then-spaces_sound g c).After-registry_at-start in
+    let index = c.in-Some.ensures in
+    let looked = c.spaces_sound.ensures in
+    let still = c.if-spaces_sound.true in
+    holders_decide p index.value refl looked.value still (rw index.indexed at (looked.looked_2 still)) c.holders_within.ensures
