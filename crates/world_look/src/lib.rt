@@ -18,37 +18,24 @@ use world::head::{LOGGED, NEXT, RECYCLED, REGISTERED, in_range, numbers};
 use world::regions::{length_for, log_at, queue_at, registry_at, space_at, width};
 
 // The counts and the next id, in their ranges.
+#[tactic(auto, unfolding(world::specs::Sound::counts_test))]
 fn counts_fit(mem: &[u64], d: Numbers) -> bool
     requires { InRange d × (16 ≤ length mem.now) }
     ensures { result ≡ counts_test d mem.now }
 {
-    if d.places < mem[REGISTERED] as usize {
-        return false;
-    }
-    if d.pairs < mem[LOGGED] as usize {
-        return false;
-    }
-    if mem[NEXT] < 1 {
-        return false;
-    }
-    if 0x1_0000_0000_0000 < mem[NEXT] {
-        return false;
-    }
-    mem[RECYCLED] as usize <= d.places + 1
+    mem[REGISTERED] as usize <= d.places
+        && mem[LOGGED] as usize <= d.pairs
+        && (1..=0x1_0000_0000_0000).contains(&mem[NEXT])
+        && mem[RECYCLED] as usize <= d.places + 1
 }
 
 // The head's words: the numbers are in range, and the memory is long enough for them.
+#[tactic(auto, using(crate::proofs::Looking::head_laws), unfolding(world::specs::Sound::head_test))]
 fn head_sound(mem: &[u64], d: Numbers) -> bool
     requires { 16 ≤ length mem.now }
     ensures { result ≡ head_test d mem.now }
 {
-    if !in_range(d) {
-        return false;
-    }
-    if mem.len() < length_for(d) {
-        return false;
-    }
-    counts_fit(mem, d)
+    in_range(d) && length_for(d) <= mem.len() && counts_fit(mem, d)
 }
 
 // Writes the ids of the live slots one after the other, and answers how many they are. Every slot's id is written, over the one before
@@ -59,13 +46,9 @@ fn live_ids(words: &[u64], slots: usize, ids: &mut [u64; 512]) -> usize
     ensures ids_after { ids.new ≡ live_ids words.now slots ids.old }
 {
     let mut n = 0;
-    let mut i = 0;
-    while i < slots {
-        let entry = table::entry_at(words, i);
-        let capability = entry.capability;
-        ids[n] = capability.id();
+    for i in 0..slots {
+        ids[n] = table::entry_at(words, i).capability.id();
         n += table_look::one_of(words, i, table::Kind::Full);
-        i += 1;
     }
     n
 }
@@ -107,11 +90,8 @@ fn spaces_sound(mem: &[u64], d: Numbers, ids: &Index<'_>, counts: &mut [u16]) ->
     ensures value { result ≡ spaces_test d mem.now }
     ensures looked_2 { result ≡ true → Looked d mem.now ids.now.words.now d.spaces counts.new }
 {
-    let mut s = 0;
-    while s < d.spaces {
-        if space_sound(mem, d, s, ids, counts) {
-            s += 1;
-        } else {
+    for s in 0..d.spaces {
+        if !space_sound(mem, d, s, ids, counts) {
             return false;
         }
     }
@@ -175,6 +155,7 @@ fn queues_sound(mem: &[u64], d: Numbers) -> bool
 }
 
 // Whether the memory keeps every rule: the head's first, by which all else is read.
+#[tactic(auto, using(crate::proofs::Looking::look_laws), unfolding(world::specs::Sound::sound_test))]
 pub fn is_sound(mem: &[u64]) -> bool
     ensures { result ≡ sound_test mem.now }
 {
@@ -182,14 +163,5 @@ pub fn is_sound(mem: &[u64]) -> bool
         return false;
     }
     let d = numbers(mem);
-    if !head_sound(mem, d) {
-        return false;
-    }
-    if !holdings_sound(mem, d) {
-        return false;
-    }
-    if !log_sound(mem, d) {
-        return false;
-    }
-    queues_sound(mem, d)
+    head_sound(mem, d) && holdings_sound(mem, d) && log_sound(mem, d) && queues_sound(mem, d)
 }

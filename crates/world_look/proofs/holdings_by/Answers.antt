@@ -11,7 +11,7 @@ use Rattle.registry.specs.Words.{id_at, state_at}
 use Rattle.world_look.specs.Look.{Looked, looked_none, held_by_tally}
 use Rattle.world.specs.Numbers.{next_of, registered_of, recycled_of}
 use Rattle.world.specs.Regions.{registry, length_for, start_of, view}
-use Rattle.world.specs.Sound.{registered_ids, spaces_with, ids_test, spaces_test, holders_test, holdings_test}
+use Rattle.world.specs.Sound.{spaces_with, ids_test, spaces_test, holders_test, holdings_test}
 use Rattle.world.specs.SoundLaws.{Headed}
 use Rattle.world.specs.Views.{length_view, lent_view}
 use Rattle.world.specs.declared.Numbers.{Numbers}
