@@ -3,7 +3,7 @@ use Rattle.std.specs.Prelude.{◌≡◌, Result}
 use Rattle.answers.specs.Number.{number_of}
 use Rattle.answers.specs.declared.Refusal.{Refusal}
 use Rattle.manager_calls.specs.Calls.{StatsReply, TreeReply, told_stats, told_tree}
-use Rattle.manager_calls.specs.declared.Stats.{Stats}
+use Rattle.manager_calls.specs.declared.ManagerStats.{ManagerStats}
 use Rattle.manager_calls.specs.declared.Tree.{Tree}
 use Rattle.host.specs.declared.manager.ManagerAnswer.{ManagerAnswer}
 use Rattle.host.specs.declared.manager.TreeAnswer.{TreeAnswer}
@@ -16,7 +16,7 @@ unfoldable pub tree_answer : TreeReply → TreeAnswer
 tree_answer r = record { answer = number_of r.answer; parents = r.parents; children = r.children }
 
 -- What the code's conversions answer.
-abbrev pub ManagerAnswers : Result Stats Refusal → ManagerAnswer → Type 0
+abbrev pub ManagerAnswers : Result ManagerStats Refusal → ManagerAnswer → Type 0
 ManagerAnswers outcome answer = answer ≡ manager_answer (told_stats outcome)
 
 abbrev pub TreeAnswers : Result Tree Refusal → TreeAnswer → Type 0

@@ -9,7 +9,7 @@ ghost use Rattle.host_replies.specs.Replies.{call_answer, told, area_answer};
 use answers::Refusal;
 use delegation_calls::delegate;
 use host_replies::CallAnswer;
-use manager_calls::{Stats, Tree};
+use manager_calls::{ManagerStats, Tree};
 use token::{CapabilityToken, Rights};
 
 // The answer's number, and the statistics of the manager.
@@ -32,12 +32,12 @@ pub struct TreeAnswer {
     pub children: u64,
 }
 
-impl From<Result<Stats, Refusal>> for ManagerAnswer {
+impl From<Result<ManagerStats, Refusal>> for ManagerAnswer {
     ghost use Rattle.host.specs.Manager.{ManagerAnswers};
 
     ghost from_gives = { ManagerAnswers };
 
-    fn from(outcome: Result<Stats, Refusal>) -> Self {
+    fn from(outcome: Result<ManagerStats, Refusal>) -> Self {
         match outcome {
             Ok(stats) => ManagerAnswer {
                 answer: 0,

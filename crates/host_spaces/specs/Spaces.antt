@@ -4,7 +4,7 @@ use Rattle.answers.specs.Number.{number_of}
 use Rattle.answers.specs.declared.Refusal.{Refusal}
 use Rattle.space_reads.specs.Replies.{EntryReply, StatsReply, told_entry, told_stats}
 use Rattle.space_reads.specs.declared.FoundEntry.{FoundEntry}
-use Rattle.space_reads.specs.declared.Stats.{Stats}
+use Rattle.space_reads.specs.declared.SpaceStats.{SpaceStats}
 use Rattle.steps.specs.declared.replies.Refused.{Refused}
 use Rattle.host_spaces.specs.declared.spaces.EntryAnswer.{EntryAnswer}
 use Rattle.host_spaces.specs.declared.spaces.StatsAnswer.{StatsAnswer}
@@ -27,5 +27,5 @@ stats_answer r = record { answer = number_of r.answer; hits = r.hits; misses = r
 abbrev pub EntryAnswers : Result FoundEntry Refused → EntryAnswer → Type 0
 EntryAnswers outcome answer = answer ≡ entry_answer (told_entry outcome)
 
-abbrev pub StatsAnswers : Result Stats Refusal → StatsAnswer → Type 0
+abbrev pub StatsAnswers : Result SpaceStats Refusal → StatsAnswer → Type 0
 StatsAnswers outcome answer = answer ≡ stats_answer (told_stats outcome)

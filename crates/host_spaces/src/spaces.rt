@@ -8,7 +8,7 @@ ghost use Rattle.host_spaces.specs.Spaces.{entry_answer, stats_answer};
 
 use answers::Refusal;
 use host_replies::CallAnswer;
-use space_reads::{FoundEntry, Stats};
+use space_reads::{FoundEntry, SpaceStats};
 use steps::Refused;
 use token::{CapabilityToken, Rights};
 
@@ -61,12 +61,12 @@ impl From<Result<FoundEntry, Refused>> for EntryAnswer {
     }
 }
 
-impl From<Result<Stats, Refusal>> for StatsAnswer {
+impl From<Result<SpaceStats, Refusal>> for StatsAnswer {
     ghost use Rattle.host_spaces.specs.Spaces.{StatsAnswers};
 
     ghost from_gives = { StatsAnswers };
 
-    fn from(outcome: Result<Stats, Refusal>) -> Self {
+    fn from(outcome: Result<SpaceStats, Refusal>) -> Self {
         match outcome {
             Ok(stats) => StatsAnswer {
                 answer: 0,

@@ -22,7 +22,7 @@ use Rattle.manager_calls.specs.Tokens.{token_of, current}
 use Rattle.manager_calls.specs.declared.StatsReply.{StatsReply}
 use Rattle.manager_calls.specs.declared.TreeReply.{TreeReply}
 use Rattle.table.specs.declared.CapabilityEntry.{CapabilityEntry}
-use Rattle.manager_calls.specs.declared.Stats.{Stats}
+use Rattle.manager_calls.specs.declared.ManagerStats.{ManagerStats}
 use Rattle.manager_calls.specs.declared.Tree.{Tree}
 
 -- ---- create
@@ -105,7 +105,7 @@ stats_out mem =
     })
 
 -- What the code's outcome tells.
-abbrev pub told_stats : Result Stats Refusal → StatsReply
+abbrev pub told_stats : Result ManagerStats Refusal → StatsReply
 told_stats (Ok stats) =
     record { answer = Done; created = stats.created; delegated = stats.delegated; revoked = stats.revoked; deleted = stats.deleted }
 told_stats (Err refusal) = no_stats (Refuses refusal)

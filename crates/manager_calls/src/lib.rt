@@ -18,7 +18,7 @@ pub use read::{census, derivation_tree_stats, get_children, stats};
 
 /// The statistics of the manager: capabilities created, delegated, revoked and deleted since the opening.
 #[derive(Clone, Copy, PartialEq, Eq, Debug)]
-pub struct Stats {
+pub struct ManagerStats {
     pub created: u64,
     pub delegated: u64,
     pub revoked: u64,

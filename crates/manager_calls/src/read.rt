@@ -3,7 +3,7 @@ ghost use Rattle.std.specs.Prelude.{◌≡◌};
 ghost use Rattle.steps.specs.Replies.{told};
 ghost use Rattle.manager_calls.specs.Calls.{told_stats, told_tree, stats_out, children_out, tree_stats_out, census_out};
 
-use super::{Stats, Tree};
+use super::{ManagerStats, Tree};
 use answers::Refusal;
 use space_steps::spaces;
 use steps::enter::{enter_space, enter_world};
@@ -12,11 +12,11 @@ use world::head::{CREATED, DELEGATED, DELETED, REVOKED};
 
 /// The statistics of the manager.
 #[tactic(auto, unfolding(crate::specs::Calls::stats_out, steps::specs::Enter::on_world))]
-pub fn stats(mem: &[u64]) -> Result<Stats, Refusal>
+pub fn stats(mem: &[u64]) -> Result<ManagerStats, Refusal>
     ensures { told_stats result ≡ stats_out mem.now }
 {
     enter_world(mem)?;
-    Ok(Stats {
+    Ok(ManagerStats {
         created: mem[CREATED],
         delegated: mem[DELEGATED],
         revoked: mem[REVOKED],

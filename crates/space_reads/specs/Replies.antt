@@ -12,7 +12,7 @@ use Rattle.steps.specs.Replies.{replied, Reply}
 use Rattle.steps.specs.declared.Facts.{Facts}
 use Rattle.steps.specs.declared.replies.Refused.{Refused}
 use Rattle.space_reads.specs.declared.FoundEntry.{FoundEntry}
-use Rattle.space_reads.specs.declared.Stats.{Stats}
+use Rattle.space_reads.specs.declared.SpaceStats.{SpaceStats}
 
 -- An entry for an answer, zeros on a refusal, and the slots that its search visited.
 pub record EntryReply : Type 0 where
@@ -85,6 +85,6 @@ abbrev pub told_facts : Result Facts Refusal → FactsReply
 told_facts (Ok facts) = record { answer = Done; facts = facts }
 told_facts (Err refusal) = no_facts (Refuses refusal)
 
-abbrev pub told_stats : Result Stats Refusal → StatsReply
+abbrev pub told_stats : Result SpaceStats Refusal → StatsReply
 told_stats (Ok stats) = record { answer = Done; hits = stats.hits; misses = stats.misses; total_caps = stats.total_caps }
 told_stats (Err refusal) = record { answer = Refuses refusal; hits = 0; misses = 0; total_caps = 0 }

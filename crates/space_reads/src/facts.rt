@@ -5,7 +5,7 @@ ghost use Rattle.steps.specs.Replies.{told};
 ghost use Rattle.space_reads.specs.Calls.{facts_out, used_out, quota_out, capacity_out, generation_out, stats_out};
 ghost use Rattle.space_reads.specs.Replies.{told_facts, told_stats};
 
-use super::Stats;
+use super::SpaceStats;
 use answers::Refusal;
 use space_steps::spaces::facts;
 use steps::enter::enter_space;
@@ -53,11 +53,11 @@ pub fn generation(mem: &[u64], s: usize) -> Result<Done, Refused>
 }
 
 /// Lookups that found the capability, those that did not, and the entries that there are.
-pub fn stats(mem: &[u64], s: usize) -> Result<Stats, Refusal>
+pub fn stats(mem: &[u64], s: usize) -> Result<SpaceStats, Refusal>
     ensures { told_stats result ≡ stats_out mem.now s }
 {
     let facts = all_facts(mem, s)?;
-    Ok(Stats {
+    Ok(SpaceStats {
         hits: facts.hits,
         misses: facts.misses,
         total_caps: facts.used as u64,

@@ -19,7 +19,7 @@ pub struct FoundEntry {
 
 /// The statistics of a space: its counted lookups, those that found the capability and those that did not, and its entries.
 #[derive(Clone, Copy, PartialEq, Eq, Debug)]
-pub struct Stats {
+pub struct SpaceStats {
     pub hits: u64,
     pub misses: u64,
     pub total_caps: u64,
