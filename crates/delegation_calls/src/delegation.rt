@@ -12,8 +12,6 @@ use super::offer::find_child;
 use answers::Refusal;
 use space_steps::spaces;
 use steps::enter::enter_space;
-use steps::replies::{done, refusal};
-use steps::{Entered, Reply};
 use steps::{Done, Refused};
 use token::{CapabilityToken, Rights};
 use world::Numbers;

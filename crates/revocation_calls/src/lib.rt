@@ -17,8 +17,6 @@ use space::LookedUp;
 use space_steps::spaces;
 use steps::enter::{enter_space, enter_world};
 use steps::registered::{add, place_of};
-use steps::replies::{done, refusal, replied};
-use steps::{Entered, Reply};
 use steps::{Done, Refused};
 use token::{CapabilityToken, Rights};
 use world::Numbers;

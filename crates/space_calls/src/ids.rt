@@ -8,8 +8,6 @@ use answers::Refusal;
 use space_steps::spaces;
 use steps::enter::{enter_space, enter_world};
 use steps::ids::take_id;
-use steps::replies::{done, refusal};
-use steps::{Entered, Reply, Taken};
 use steps::{Done, Refused};
 use token::{CapabilityToken, Rights};
 use world::Numbers;
