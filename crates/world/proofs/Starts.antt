@@ -1,5 +1,5 @@
 -- The sums that the offsets of regions.rt are, in the code's words: they fit a word, and they are the starts of the regions.
-use Rattle.std.proofs.Common.{◌≡◌, refl, ℕ, ◌+◌, ◌*◌, ◌≤◌, ◌<◌, le_of_lt, mul-le-mul_right, arith, rules}
+use Rattle.std.proofs.Common.{◌≡◌, refl, ℕ, ◌+◌, ◌*◌, ◌^◌, ◌≤◌, ◌<◌, le_of_lt, mul-le-mul_right, arith, rules}
 use mir.Syntax.{w64}
 use mir.Val.{Fits}
 use Rattle.world.specs.Layout.{inside, length-le}
@@ -26,5 +26,9 @@ module _ (d : Numbers) (ok : InRange d) where
     pub registry_starts : s ≡ d.spaces → StartsAt d registry (16 + s * w)
     unfolding start_of
     registry_starts e = rw (is, e) (record { is = refl; fits = inside d registry tt })
+
+-- No place of the memory is past a word.
+pub length_fits : (d : Numbers) → InRange d → length_for d < 2 ^ 64
+length_fits d ok = omega (arith, length-le d ok)
 
 pub ruleset starts = (rules, le_of_lt, words_fit, start_fits, space_starts, registry_starts)

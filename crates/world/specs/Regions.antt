@@ -58,3 +58,9 @@ on_each d R f (suc n) mem = on_region d (R n) (f n) (on_each d R f n mem)
 pub record StartsAt (d : Numbers) (r : Region) (start : ℕ) : Type 0 where
   pub is : start ≡ start_of d r
   pub fits : start + size_of d r ≤ length_for d
+
+-- Where it starts and ends.
+pub record Spans (d : Numbers) (r : Region) (start end : ℕ) : Type 0 where
+  pub is : start ≡ start_of d r
+  pub ends : start + size_of d r ≡ end
+  pub fits : end ≤ length_for d

@@ -1,7 +1,6 @@
-// The numbers of an opening: where the memory has them, and their ranges.
+//! The numbers of an opening: where the memory has them, and their ranges.
 ghost use Rattle.std.specs.Prelude.{◌≡◌, ◌≤◌, length};
 ghost use Rattle.world.specs.Numbers.{numbers_of, in_range_test};
-ghost use Rattle.world.specs.Numbers as spec;
 
 use crate::Numbers;
 
@@ -25,7 +24,7 @@ pub const RECYCLED: usize = 12;
 
 pub const LOGGED: usize = 13;
 
-// The numbers that memory was opened with: its first five words.
+/// The numbers that memory was opened with: its first five words.
 pub fn numbers(mem: &[u64]) -> Numbers
     requires { 16 ≤ length mem.now }
     ensures { result ≡ numbers_of mem.now }
@@ -39,30 +38,14 @@ pub fn numbers(mem: &[u64]) -> Numbers
     }
 }
 
-fn between(low: usize, high: usize, n: usize) -> bool
-    ensures { result ≡ spec.between low high n }
-{
-    if n < low {
-        return false;
-    }
-    n <= high
-}
-
-// Every number is in document 01's range.
+/// Every number is in its range.
+#[tactic(auto, unfolding(crate::specs::Numbers::in_range_test))]
 pub fn in_range(d: Numbers) -> bool
     ensures { result ≡ in_range_test d }
 {
-    if !between(1, 64, d.spaces) {
-        return false;
-    }
-    if !between(1, 256, d.most) {
-        return false;
-    }
-    if !between(1, 4095, d.places) {
-        return false;
-    }
-    if !between(1, 8192, d.pairs) {
-        return false;
-    }
-    between(1, 32, d.queues)
+    (1..=64).contains(&d.spaces)
+        && (1..=256).contains(&d.most)
+        && (1..=4095).contains(&d.places)
+        && (1..=8192).contains(&d.pairs)
+        && (1..=32).contains(&d.queues)
 }

@@ -1,4 +1,4 @@
-// Opening a world: the tests of the numbers, the quotas and the length, and the words of an empty world.
+//! Opening a world: the tests of the numbers, the quotas and the length, and the words of an empty world.
 ghost use Rattle.std.specs.Prelude.{◌≡◌, ◌≤◌, ◌<◌, leb, length, get_or};
 ghost use Rattle.answers.specs.Answer.{answer_of};
 ghost use Rattle.base.specs.Below.{all};
@@ -9,23 +9,21 @@ ghost use Rattle.world.specs.Regions.{head, space, length_for, on_region};
 
 use crate::Numbers;
 use crate::head::{NEXT, in_range};
-use crate::regions::{length_for, queue_at, space_at, width};
+use crate::regions::{length_for, queue_at};
 use answers::Refusal;
 use revocation::queues::LENGTH;
 
 // Writes the words at the front of the slice.
+#[tactic(auto, unfolding(base::specs::Written::written))]
 fn put_words(dst: &mut [u64], words: &[u64])
     requires { length words.now ≤ length dst.old }
     ensures { dst.new ≡ written words.now dst.old }
 {
-    let mut i = 0;
-    while i < words.len() {
-        dst[i] = words[i];
-        i += 1;
-    }
+    dst[..words.len()].copy_from_slice(words);
 }
 
 // The numbers, next id 1, and zeros.
+#[tactic(auto, unfolding(crate::specs::Open::open_head, crate::specs::Regions::start_of, base::specs::Written::written))]
 fn open_head(mem: &mut [u64], d: Numbers)
     requires { 16 ≤ length mem.old }
     ensures { mem.new ≡ on_region d head (λ hd. open_head d) mem.old }
@@ -46,33 +44,27 @@ fn open_space(mem: &mut [u64], d: Numbers, s: usize, quota: u64)
     ensures { mem.new ≡ on_region d (space s) (open_space quota) mem.old }
 {
     let words = [quota, 0, 0, 0, 0, 0, 0, 0];
-    let start = space_at(d, s);
-    let end = start + width(d);
-    put_words(&mut mem[start..end], &words);
+    put_words(&mut mem[d.space(s)], &words);
 }
 
+#[tactic(auto, using(crate::proofs::Opening::space_laws))]
 fn open_spaces(mem: &mut [u64], d: Numbers, quotas: &[u64])
     requires { InRange d × (length quotas.now ≡ d.spaces) × (length_for d ≤ length mem.old) }
     ensures { mem.new ≡ open_spaces d quotas.now d.spaces mem.old }
 {
-    let mut s = 0;
-    while s < d.spaces {
-        let quota = quotas[s];
-        open_space(mem, d, s, quota);
-        s += 1;
+    for s in 0..d.spaces {
+        open_space(mem, d, s, quotas[s]);
     }
 }
 
 // Every queue free.
+#[tactic(auto, using(crate::proofs::Opening::queue_laws))]
 fn open_queues(mem: &mut [u64], d: Numbers)
     requires { InRange d × (length_for d ≤ length mem.old) }
     ensures { mem.new ≡ open_queues d d.queues mem.old }
 {
-    let mut q = 0;
-    while q < d.queues {
-        let start = queue_at(d, q);
-        mem[start + LENGTH] = 0;
-        q += 1;
+    for q in 0..d.queues {
+        mem[queue_at(d, q) + LENGTH] = 0;
     }
 }
 
@@ -80,11 +72,8 @@ fn open_queues(mem: &mut [u64], d: Numbers)
 fn quotas_fit(quotas: &[u64], most: u64) -> bool
     ensures { result ≡ all (length quotas.now) (λ s. leb (get_or quotas.now s 0) most) }
 {
-    let mut s = 0;
-    while s < quotas.len() {
-        if quotas[s] <= most {
-            s += 1;
-        } else {
+    for quota in quotas {
+        if most < *quota {
             return false;
         }
     }
@@ -92,16 +81,11 @@ fn quotas_fit(quotas: &[u64], most: u64) -> bool
 }
 
 // The numbers and quotas of an opening are good.
+#[tactic(auto, unfolding(crate::specs::Open::record_test))]
 fn good_record(d: Numbers, quotas: &[u64]) -> bool
     ensures { result ≡ record_test d quotas.now }
 {
-    if !in_range(d) {
-        return false;
-    }
-    if quotas.len() != d.spaces {
-        return false;
-    }
-    quotas_fit(quotas, d.most as u64)
+    in_range(d) && quotas.len() == d.spaces && quotas_fit(quotas, d.most as u64)
 }
 
 // The words of an empty world.
@@ -114,7 +98,7 @@ fn write_world(mem: &mut [u64], d: Numbers, quotas: &[u64])
     open_queues(mem, d);
 }
 
-// Empties the memory for a world of these numbers, with each space's quota.
+/// Empties the memory for a world of these numbers, with each space's quota.
 pub fn open(mem: &mut [u64], d: Numbers, quotas: &[u64]) -> Result<(), Refusal>
     ensures { record { answer = answer_of result; memory = mem.new } ≡ opening d quotas.now mem.old }
 {

@@ -14,5 +14,5 @@ pub returns : goal.returns
 unfolding open_space written
 returns c =
     let args = c.args in
-    lent_region args.d (space args.s) _ _ _ (open_space args.quota) _ c.space_at-start.ensures.is (omega arith)
+    lent_region args.d (space args.s) _ _ _ (open_space args.quota) _ c.space.ensures.is c.space.ensures.ends
     c.put_words.ensures
