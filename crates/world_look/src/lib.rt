@@ -15,7 +15,7 @@ use base::distinct::Index;
 use registry_look::{count_entries, holders_within, registry_sound};
 use world::Numbers;
 use world::head::{LOGGED, NEXT, RECYCLED, REGISTERED, in_range, numbers};
-use world::regions::{length_for, log_at, queue_at, registry_at, space_at, width};
+use world::regions::{length_for, queue_at};
 
 // The counts and the next id, in their ranges.
 #[tactic(auto, unfolding(world::specs::Sound::counts_test))]
@@ -73,9 +73,7 @@ fn space_sound(mem: &[u64], d: Numbers, s: usize, ids: &Index<'_>, counts: &mut 
     ensures value { result ≡ space_test d.most (view d (space s) mem.now) }
     ensures looked_2 { result ≡ true → Looked d mem.now ids.now.words.now (s + 1) counts.new }
 {
-    let start = space_at(d, s);
-    let end = start + width(d);
-    let sp = &mem[start..end];
+    let sp = &mem[d.space(s)];
     if !space::is_sound(sp, d.most) {
         return false;
     }
@@ -108,9 +106,7 @@ fn holdings_by<const H: usize, const N: usize>(mem: &[u64], d: Numbers) -> bool
     let mut heads = [0u16; H];
     let mut prevs = [0u16; N];
     let mut counts = [0u16; N];
-    let start = registry_at(d);
-    let end = start + 5 * d.places + 1;
-    let rg = &mem[start..end];
+    let rg = &mem[d.registry()];
     let n = mem[REGISTERED] as usize;
     let indexed = registry_sound(
         rg,
@@ -140,9 +136,7 @@ fn log_sound(mem: &[u64], d: Numbers) -> bool
     requires { Headed d mem.now }
     ensures { result ≡ logged_test d mem.now }
 {
-    let start = log_at(d);
-    let end = start + d.pairs;
-    revocation::look::log_sound(&mem[start..end], mem[LOGGED] as usize)
+    revocation::look::log_sound(&mem[d.log()], mem[LOGGED] as usize)
 }
 
 fn queues_sound(mem: &[u64], d: Numbers) -> bool

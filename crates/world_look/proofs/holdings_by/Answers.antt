@@ -10,7 +10,7 @@ use Rattle.registry.specs.Sound.{registry_test, within_test}
 use Rattle.registry.specs.Words.{id_at, state_at}
 use Rattle.world_look.specs.Look.{Looked, looked_none, held_by_tally}
 use Rattle.world.specs.Numbers.{next_of, registered_of, recycled_of}
-use Rattle.world.specs.Regions.{registry, length_for, start_of, view}
+use Rattle.world.specs.Regions.{registry, length_for, view, Spans}
 use Rattle.world.specs.Sound.{spaces_with, ids_test, spaces_test, holders_test, holdings_test}
 use Rattle.world.specs.SoundLaws.{Headed}
 use Rattle.world.specs.Views.{length_view, lent_view}
@@ -18,29 +18,29 @@ use Rattle.world.specs.declared.Numbers.{Numbers}
 use Rattle.world.proofs.Tests.{fails, passes}
 use Rattle.world_look.proofs.holdings_by.Given.{Over}
 use Rattle.world_look.proofs.holdings_by.Goals as goal
-use Rattle.world_look.proofs.holdings_by.Goals.{After-registry_at-start}
+use Rattle.world_look.proofs.holdings_by.Goals.{After-registry}
 
--- What is known once the registry's start is.
-record Placed (d : Numbers) (mem : List ℕ) (room start : ℕ) : Type 0 where
+-- What is known once the registry's places are.
+record Placed (d : Numbers) (mem : List ℕ) (room start end : ℕ) : Type 0 where
   head : Headed d mem
   enough : registered_of mem ≤ room
-  start_is : start ≡ start_of d registry
+  spans : Spans d registry start end
 
-placed : (g : Over) (c : After-registry_at-start g) → Placed c.args.d c.args.mem.now g.row.N c.registry_at-start.result
+placed : (g : Over) (c : After-registry g) → Placed c.args.d c.args.mem.now g.row.N c.registry.result.start c.registry.result.end
 placed g c =
     let (head, enough) = c.requires.headed in
-    record { head = head; enough = enough; start_is = c.registry_at-start.ensures.is }
+    record { head = head; enough = enough; spans = c.registry.ensures }
 
 -- ---- the tests, in the code's order
-module _ {d : Numbers} {mem : List ℕ} {room start : ℕ} (p : Placed d mem room start) where
+module _ {d : Numbers} {mem : List ℕ} {room start end : ℕ} (p : Placed d mem room start end) where
   abbrev rg : List ℕ
-  rg = take ((start + 5 * d.places + 1) - start) (drop start mem)
+  rg = take (end - start) (drop start mem)
 
   abbrev ids : List ℕ
   ids = take (registered_of mem) rg
 
   rg_is : rg ≡ view d registry mem
-  rg_is = lent_view d registry mem start (start + 5 * d.places + 1) p.start_is (omega arith)
+  rg_is = lent_view d registry mem start end p.spans.is p.spans.ends
 
   long : length rg ≡ 5 * d.places + 1
   long = rw rg_is (length_view d registry mem tt p.head.long_enough)
@@ -101,20 +101,20 @@ bounds-mem-12 g c = omega arith
 
 pub registry_sound-indexed-requires-clause-chained : goal.registry_sound-indexed-requires-clause-chained
 registry_sound-indexed-requires-clause-chained g c =
-    no_index (placed g (goal.at.registry_sound-indexed-requires-clause-chained g c).After-registry_at-start) g.row.H (omega arith) (omega arith)
+    no_index (placed g (goal.at.registry_sound-indexed-requires-clause-chained g c).After-registry) g.row.H (omega arith) (omega arith)
 
 pub returns-in_default : goal.returns-in_default
-returns-in_default g c = ids_fail (placed g (goal.at.returns-in_default g c).After-registry_at-start) c.in_default.ensures.value refl
+returns-in_default g c = ids_fail (placed g (goal.at.returns-in_default g c).After-registry) c.in_default.ensures.value refl
 
 pub spaces_sound-requires-clause-looked : goal.spaces_sound-requires-clause-looked
 spaces_sound-requires-clause-looked g c =
-    let p = placed g (goal.at.spaces_sound-requires-clause-looked g c).After-registry_at-start in
+    let p = placed g (goal.at.spaces_sound-requires-clause-looked g c).After-registry in
     let index = c.in-Some.ensures in
     rw index.indexed (counts_none p index.value refl)
 
 pub returns-then-spaces_sound : goal.returns-then-spaces_sound
 returns-then-spaces_sound g c =
-    let p = placed g (goal.at.returns-then-spaces_sound g c).After-registry_at-start in
+    let p = placed g (goal.at.returns-then-spaces_sound g c).After-registry in
     let index = c.in-Some.ensures in
     let looked = c.spaces_sound.ensures in
     let still = c.if-spaces_sound.true in

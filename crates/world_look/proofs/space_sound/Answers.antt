@@ -6,35 +6,28 @@ use Rattle.space.specs.Words.{table_of, slot_words, words_for}
 use Rattle.space.proofs.laws.Tests.{space_exactly}
 use Rattle.world.specs.Layout.{width_le}
 use Rattle.world_look.specs.Look.{count_slots, slots_fit, Looked, looked_more}
-use Rattle.world.specs.Regions.{space, width_of, start_of, view}
+use Rattle.world.specs.Regions.{space, width_of, view, Spans}
 use Rattle.world.specs.SoundLaws.{Headed}
 use Rattle.world.specs.Views.{length_view, lent_view}
 use Rattle.world.specs.declared.Numbers.{Numbers}
 use Rattle.world_look.proofs.space_sound.Goals as goal
-use Rattle.world_look.proofs.space_sound.Goals.{After-width}
+use Rattle.world_look.proofs.space_sound.Goals.{After-space}
 
--- What is known once the space's start and width are.
-record Placed (d : Numbers) (mem : List ℕ) (s start w : ℕ) : Type 0 where
+-- What is known once the space's places are.
+record Placed (d : Numbers) (mem : List ℕ) (s start end : ℕ) : Type 0 where
   head : Headed d mem
   there : s < d.spaces
-  start_is : start ≡ start_of d (space s)
-  width_is : w ≡ width_of d
+  spans : Spans d (space s) start end
 
-placed : (c : After-width) → Placed c.args.d c.args.mem.now c.args.s c.space_at-start.result
-    c.width.result
-placed c = record {
-  head = c.requires.headed.0;
-  there = c.requires.headed.1;
-  start_is = c.space_at-start.ensures.is;
-  width_is = c.width.ensures;
-}
+placed : (c : After-space) → Placed c.args.d c.args.mem.now c.args.s c.space.result.start c.space.result.end
+placed c = record { head = c.requires.headed.0; there = c.requires.headed.1; spans = c.space.ensures }
 
-module _ {d : Numbers} {mem : List ℕ} {s start w : ℕ} (p : Placed d mem s start w) where
+module _ {d : Numbers} {mem : List ℕ} {s start end : ℕ} (p : Placed d mem s start end) where
   abbrev sp : List ℕ
-  sp = take ((start + w) - start) (drop start mem)
+  sp = take (end - start) (drop start mem)
 
   sp_is : sp ≡ view d (space s) mem
-  sp_is = lent_view d (space s) mem start (start + w) p.start_is (omega arith)
+  sp_is = lent_view d (space s) mem start end p.spans.is p.spans.ends
 
   long : length sp ≡ words_for d.most
   unfolding width_of
@@ -60,13 +53,13 @@ module _ {d : Numbers} {mem : List ℕ} {s start w : ℕ} (p : Placed d mem s st
       counted {ids} {counts} looked h = rw (h, sp_is) (looked_more d mem ids s counts looked (rw sp_is at sound) (rw sp_is at few))
 
 pub is_sound-requires : goal.is_sound-requires
-is_sound-requires c = (omega arith, omega (arith, long (placed (goal.at.is_sound-requires c).After-width)))
+is_sound-requires c = (omega arith, omega (arith, long (placed (goal.at.is_sound-requires c).After-space)))
 
 pub count_space-requires-clause-sp_bound : goal.count_space-requires-clause-sp_bound
-count_space-requires-clause-sp_bound c = search (rules, sp, sp_is, long, tested, sound, few, fit, counted, space_exactly)
+count_space-requires-clause-sp_bound c = search (rules, few, fit)
 
 pub returns-clause-looked_2 : goal.returns-clause-looked_2
-returns-clause-looked_2 c = search (rules, sp, sp_is, long, tested, sound, few, fit, counted, space_exactly)
+returns-clause-looked_2 c = search (rules, counted)
 
 pub returns-clause-value : goal.returns-clause-value
-returns-clause-value c = search (rules, sp, sp_is, long, tested, sound, few, fit, counted, space_exactly)
+returns-clause-value c = search (rules, tested)
