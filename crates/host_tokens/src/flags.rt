@@ -5,7 +5,7 @@ ghost use Rattle.host_tokens.specs.Answered.{has_answer, flags_answer};
 
 use token::CapabilityFlags;
 
-/// The answer's number, and whether the flags have the permission; a refusal says no.
+/// For C: the answer's number, and whether the flags have the permission; a refusal says no.
 #[repr(C)]
 #[derive(Clone, Copy)]
 pub struct HasAnswer {
@@ -13,7 +13,7 @@ pub struct HasAnswer {
     pub has: bool,
 }
 
-/// The answer's number, and the flags; those of a refusal are 0.
+/// For C: the answer's number, and the flags; those of a refusal are 0.
 #[repr(C)]
 #[derive(Clone, Copy)]
 pub struct FlagsAnswer {

@@ -6,7 +6,7 @@ ghost use Rattle.host_tokens.specs.Answered.{Answers, token_answer};
 use answers::Refusal;
 use token::CapabilityToken;
 
-/// The answer's number, and the token's word; the word of a refusal is 0.
+/// For C: the answer's number, and the token's word; the word of a refusal is 0.
 #[repr(C)]
 #[derive(Clone, Copy)]
 pub struct TokenAnswer {

@@ -6,25 +6,6 @@ use super::line::Call;
 use answers::Refusal;
 use token::{CapabilityFlags, CapabilityToken, Rights};
 
-/// The answer's number, and the value or 0.
-#[derive(Clone, Copy)]
-pub struct Outcome {
-    pub answer: u8,
-    pub value: u64,
-}
-
-impl From<Result<u64, Refusal>> for Outcome {
-    fn from(answered: Result<u64, Refusal>) -> Outcome {
-        match answered {
-            Ok(value) => Outcome { answer: 0, value },
-            Err(refusal) => Outcome {
-                answer: u8::from(refusal),
-                value: 0,
-            },
-        }
-    }
-}
-
 fn of_rights(rights: Rights) -> u64 {
     u32::from(rights) as u64
 }
@@ -110,11 +91,11 @@ fn on_rights(call: Call) -> u64 {
 }
 
 /// 1 to 11 are on tokens, 12 and 13 on flags, 14 to 28 on rights.
-pub fn make(call: Call) -> Outcome {
+pub fn make(call: Call) -> Result<u64, Refusal> {
     match call.number {
-        0..=11 => on_token(call).into(),
-        12 => has(byte(call.a), byte(call.b)).into(),
-        13 => combine(call.a).into(),
-        _ => Ok(on_rights(call)).into(),
+        0..=11 => on_token(call),
+        12 => has(byte(call.a), byte(call.b)),
+        13 => combine(call.a),
+        _ => Ok(on_rights(call)),
     }
 }

@@ -6,21 +6,26 @@
 mod call;
 mod line;
 
-use call::Outcome;
+use answers::Refusal;
 
 // The numbers that the system gives the two streams of a program.
 const STDIN_FILENO: i32 = 0;
 
 const STDOUT_FILENO: i32 = 1;
 
-fn print(place: u64, number: u64, outcome: Outcome) {
+// The answer of a call that is done is 0, and so is the value of a refusal.
+fn print(place: u64, number: u64, outcome: Result<u64, Refusal>) {
+    let (answer, value) = match outcome {
+        Ok(value) => (0, value),
+        Err(refusal) => (u8::from(refusal), 0),
+    };
     io::print_decimal(STDOUT_FILENO, place);
     io::write_all(STDOUT_FILENO, b" ");
     io::print_decimal(STDOUT_FILENO, number);
     io::write_all(STDOUT_FILENO, b" ");
-    io::print_decimal(STDOUT_FILENO, outcome.answer as u64);
+    io::print_decimal(STDOUT_FILENO, answer as u64);
     io::write_all(STDOUT_FILENO, b" ");
-    io::print_hex(STDOUT_FILENO, outcome.value, 16);
+    io::print_hex(STDOUT_FILENO, value, 16);
     io::write_all(STDOUT_FILENO, b"\n");
 }
 
