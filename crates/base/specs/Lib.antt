@@ -5,6 +5,7 @@ pub mod Below
 pub mod AllLaws
 pub mod Exactly
 pub mod FirstLaws
+pub mod Listed
 pub mod LastLaws
 pub mod SumLaws
 pub mod Around

@@ -11,14 +11,7 @@ pub fn has_pair(lg: &[u64], n: usize, pair: u64) -> bool
     requires { n ≤ length lg.now }
     ensures { result ≡ log_has n lg.now pair }
 {
-    let mut k = 0;
-    while k < n {
-        if lg[k] == pair {
-            return true;
-        }
-        k += 1;
-    }
-    false
+    lg[..n].contains(&pair)
 }
 
 // Whether the pairs of a whole log have this one, by their index.
@@ -86,15 +79,10 @@ pub fn keep_absent(lg: &[u64], n: usize, pairs: &mut [u64], count: usize) -> usi
 }
 
 // These pairs join the log behind its n.
+#[tactic(auto, unfolding(crate::specs::Log::appended))]
 pub fn append(lg: &mut [u64], n: usize, pairs: &[u64])
     requires { n + length pairs.now ≤ length lg.old }
     ensures { lg.new ≡ appended n pairs.now lg.old }
 {
-    let mut at = n;
-    let mut j = 0;
-    while j < pairs.len() {
-        lg[at] = pairs[j];
-        at += 1;
-        j += 1;
-    }
+    lg[n..n + pairs.len()].copy_from_slice(pairs);
 }

@@ -19,26 +19,16 @@ fn pairs_coded(lg: &[u64], n: usize) -> bool
     requires { n ≤ length lg.now }
     ensures { result ≡ pairs_test n (pair_at lg.now) }
 {
-    let mut k = 0;
-    while k < n {
-        if is_pair(lg[k]) {
-            k += 1;
-        } else {
-            return false;
-        }
-    }
-    true
+    lg[..n].iter().all(|word| is_pair(*word))
 }
 
 // The rules of the log, of n pairs.
+#[tactic(auto, unfolding(crate::specs::Sound::log_test))]
 pub fn log_sound(lg: &[u64], n: usize) -> bool
     requires { (n ≤ length lg.now) × (n ≤ 8192) }
     ensures { result ≡ log_test n lg.now }
 {
-    if pairs_coded(lg, n) {
-        return distinct(&lg[..n]);
-    }
-    false
+    pairs_coded(lg, n) && distinct(&lg[..n])
 }
 
 // Whether the i-th notice, oldest first, has a listed reason.
@@ -55,11 +45,8 @@ fn reasons_listed(qu: &[u64], n: usize) -> bool
     requires { (771 ≤ length qu.now) × (first_of qu.now < 256) × (n ≤ 256) }
     ensures { result ≡ all n (λ i. leb (reason_at qu.now i) 3) }
 {
-    let mut i = 0;
-    while i < n {
-        if reason_listed(qu, i) {
-            i += 1;
-        } else {
+    for i in 0..n {
+        if !reason_listed(qu, i) {
             return false;
         }
     }
@@ -73,16 +60,7 @@ pub fn queue_sound(qu: &[u64]) -> bool
     ensures { result ≡ queue_test qu.now }
 {
     let n = qu[LENGTH];
-    if n == 0 {
-        return true;
-    }
-    if 256 <= qu[FIRST] {
-        return false;
-    }
-    if 256 < n {
-        return false;
-    }
-    reasons_listed(qu, n as usize)
+    n == 0 || (qu[FIRST] < 256 && n <= 256 && reasons_listed(qu, n as usize))
 }
 
 // The rules of each of p places, by itself.
@@ -90,13 +68,9 @@ fn each_sound(qs: &[u64], p: usize) -> bool
     requires { p * 771 ≤ length qs.now }
     ensures { result ≡ all p (λ q. queue_test (queue_at qs.now q)) }
 {
-    let mut q = 0;
-    while q < p {
+    for q in 0..p {
         let at = q * QUEUE;
-        let end = at + QUEUE;
-        if queue_sound(&qs[at..end]) {
-            q += 1;
-        } else {
+        if !queue_sound(&qs[at..at + QUEUE]) {
             return false;
         }
     }
@@ -116,10 +90,7 @@ fn apart(qs: &[u64], i: usize, j: usize) -> bool
     requires { (i < j) × (j * 771 + 771 ≤ length qs.now) × (0 < length_at qs.now j) }
     ensures { result ≡ apart_test (pid_at qs.now) (length_at qs.now) i j }
 {
-    if word_at(qs, i, LENGTH) == 0 {
-        return true;
-    }
-    word_at(qs, i, PID) != word_at(qs, j, PID)
+    word_at(qs, i, LENGTH) == 0 || word_at(qs, i, PID) != word_at(qs, j, PID)
 }
 
 // Whether j is no queue, or none before it has its pid.
@@ -130,11 +101,8 @@ fn pid_new(qs: &[u64], j: usize) -> bool
     if word_at(qs, j, LENGTH) == 0 {
         return true;
     }
-    let mut i = 0;
-    while i < j {
-        if apart(qs, i, j) {
-            i += 1;
-        } else {
+    for i in 0..j {
+        if !apart(qs, i, j) {
             return false;
         }
     }
@@ -146,11 +114,8 @@ fn pids_differ(qs: &[u64], p: usize) -> bool
     requires { p * 771 ≤ length qs.now }
     ensures { result ≡ pids_differ_test p (pid_at qs.now) (length_at qs.now) }
 {
-    let mut j = 0;
-    while j < p {
-        if pid_new(qs, j) {
-            j += 1;
-        } else {
+    for j in 0..p {
+        if !pid_new(qs, j) {
             return false;
         }
     }
@@ -158,12 +123,10 @@ fn pids_differ(qs: &[u64], p: usize) -> bool
 }
 
 // The rules of the queues, of p places one after another.
+#[tactic(auto, unfolding(crate::specs::Sound::queues_test))]
 pub fn queues_sound(qs: &[u64], p: usize) -> bool
     requires { p * 771 ≤ length qs.now }
     ensures { result ≡ queues_test p qs.now }
 {
-    if each_sound(qs, p) {
-        return pids_differ(qs, p);
-    }
-    false
+    each_sound(qs, p) && pids_differ(qs, p)
 }

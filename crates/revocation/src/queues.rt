@@ -71,9 +71,7 @@ fn copy_notice(qu: &[u64], i: usize, area: &mut [u64])
 {
     let from = RING + 3 * ((qu[FIRST] as usize + i) % 256);
     let to = 3 * i;
-    area[to] = qu[from];
-    area[to + 1] = qu[from + 1];
-    area[to + 2] = qu[from + 2];
+    area[to..to + 3].copy_from_slice(&qu[from..from + 3]);
 }
 
 // The notices of the queue, oldest first, to the front of the area.
@@ -83,9 +81,7 @@ pub fn copy_notices(qu: &[u64], area: &mut [u64])
     ensures { area.new ≡ written (notices qu.now) area.old }
 {
     let count = qu[LENGTH] as usize;
-    let mut i = 0;
-    while i < count {
+    for i in 0..count {
         copy_notice(qu, i, area);
-        i += 1;
     }
 }

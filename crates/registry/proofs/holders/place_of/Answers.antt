@@ -7,14 +7,14 @@ use borrow.Author.Tests.{tests}
 use Rattle.base.specs.FirstLaws.{first-le}
 use Rattle.registry.specs.Words.{id_at}
 use Rattle.registry.specs.Holders.{place_of}
-use Rattle.registry.proofs.Firsts.{first_is_position}
+use Rattle.base.specs.Listed.{first_listed}
 use Rattle.registry.proofs.holders.place_of.Goals as goal
 
 module _ (n id : ℕ) (rg : List ℕ) where
   place_is : n ≤ length rg → unwrap_or (position (λ x. eqb x id) (take n rg)) n ≡ place_of n rg id
   unfolding place_of
   place_is l =
-      first_is_position (λ x. eqb x id) (λ k. eqb (id_at rg k) id) (take n rg) n (length-take-le n rg l)
+      first_listed (λ x. eqb x id) (λ k. eqb (id_at rg k) id) (take n rg) n (length-take-le n rg l)
       (λ k u. ap (λ x. eqb x id) (get_or-take n rg k 0 u))
 
   place_few : place_of n rg id ≤ n

@@ -8,7 +8,7 @@ use Rattle.base.specs.FirstLaws.{first-le}
 use Rattle.base.specs.Part.{length_part, get_d_part}
 use Rattle.registry.specs.Words.{recycled_at}
 use Rattle.registry.specs.Ids.{join_place}
-use Rattle.registry.proofs.Firsts.{first_is_position}
+use Rattle.base.specs.Listed.{first_listed}
 use Rattle.registry.proofs.ids.join_place.Goals as goal
 
 module _ (places m id : ℕ) (rg : List ℕ) where
@@ -19,7 +19,7 @@ module _ (places m id : ℕ) (rg : List ℕ) where
   place_is l =
       let width : 4 * places + m - 4 * places ≡ m = omega arith in
       rw width
-      (first_is_position (ltb id) (λ j. ltb id (recycled_at places rg j)) (take m (drop (4 * places) rg)) m (length_part (4 * places) m rg l)
+      (first_listed (ltb id) (λ j. ltb id (recycled_at places rg j)) (take m (drop (4 * places) rg)) m (length_part (4 * places) m rg l)
       (λ j u. ap (ltb id) (get_d_part (4 * places) m rg j 0 u)))
 
   place_few : join_place places m id rg ≤ m

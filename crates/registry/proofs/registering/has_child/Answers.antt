@@ -3,7 +3,7 @@ use Rattle.std.proofs.Common.{◌≡◌, ◌∙◌, ap, ℕ, suc, ◌+◌, ◌-�
 use Rattle.base.specs.Part.{length_part, get_d_part}
 use Rattle.registry.specs.Words.{link_at, child_of}
 use Rattle.registry.specs.Registering.{has_child}
-use Rattle.registry.proofs.Firsts.{some_is_any}
+use Rattle.base.specs.Listed.{some_listed}
 use Rattle.registry.proofs.registering.has_child.Goals as goal
 
 child_listed : (places n k : ℕ) (rg : List ℕ) → 3 * places + n ≤ length rg
@@ -11,7 +11,7 @@ child_listed : (places n k : ℕ) (rg : List ℕ) → 3 * places + n ≤ length 
 child_listed places n k rg l =
     let width : 3 * places + n - 3 * places ≡ n = omega arith in
     rw (width, add-one)
-    (some_is_any (λ x. eqb x (suc k)) (child_of (link_at places rg) k) (take n (drop (3 * places) rg)) n (length_part (3 * places) n rg l)
+    (some_listed (λ x. eqb x (suc k)) (child_of (link_at places rg) k) (take n (drop (3 * places) rg)) n (length_part (3 * places) n rg l)
     (λ j u. ap (λ x. eqb x (suc k)) (get_d_part (3 * places) n rg j 0 u)))
 
 pub returns : goal.returns

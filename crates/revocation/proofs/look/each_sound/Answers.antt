@@ -19,5 +19,5 @@ loop-q-init c = search laws
 pub loop-q-preserved : goal.loop-q-preserved
 loop-q-preserved c = search laws
 
-pub returns-else-queue_sound : goal.returns-else-queue_sound
-returns-else-queue_sound c = search laws
+pub returns-then-not-queue_sound : goal.returns-then-not-queue_sound
+returns-then-not-queue_sound c = search laws

@@ -7,6 +7,3 @@ use Rattle.revocation.proofs.look.each_sound.Given as goal
 
 abbrev pub invariant-loop-q : goal.invariant-loop-q
 invariant-loop-q l = (l.q ≤ l.p) × (all l.q (λ q. queue_test (queue_at l.qs q)) ≡ true)
-
-abbrev pub decreases-loop-q : goal.decreases-loop-q
-decreases-loop-q l = l.p - l.q

@@ -1,6 +1,6 @@
 -- `revocation::look::log_sound` meets its contract: what is lent to `distinct` is the first n pairs.
 use Rattle.std.proofs.Common.{◌∙◌, arith}
-use Rattle.base.specs.Choose.{both_goes, both_stops}
+use Rattle.base.specs.Choose.{both_goes}
 use Rattle.base.specs.Distinct.{differ_take}
 use Rattle.revocation.specs.Sound.{log_test}
 use Rattle.revocation.proofs.look.log_sound.Goals as goal
@@ -10,7 +10,3 @@ unfolding log_test
 returns-then-pairs_coded c =
     both_goes _ _ _ _ c.pairs_coded.ensures c.if-pairs_coded.true
     (c.distinct.ensures ∙ differ_take _ _ (omega arith))
-
-pub returns : goal.returns
-unfolding log_test
-returns c = both_stops _ _ _ c.pairs_coded.ensures c.if-pairs_coded.false

@@ -21,8 +21,8 @@ loop-i-init c = search laws
 pub loop-i-preserved : goal.loop-i-preserved
 loop-i-preserved c = search laws
 
-pub returns-else-apart : goal.returns-else-apart
-returns-else-apart c = search laws
+pub returns-then-not-apart : goal.returns-then-not-apart
+returns-then-not-apart c = search laws
 
 pub returns : goal.returns
 returns c = search laws

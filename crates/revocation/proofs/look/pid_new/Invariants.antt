@@ -10,6 +10,3 @@ others qs j i = apart_test (pid_at qs) (length_at qs) i j
 
 abbrev pub invariant-loop-i : goal.invariant-loop-i
 invariant-loop-i l = (l.i ≤ l.j) × (all l.i (others l.qs l.j) ≡ true)
-
-abbrev pub decreases-loop-i : goal.decreases-loop-i
-decreases-loop-i l = l.j - l.i

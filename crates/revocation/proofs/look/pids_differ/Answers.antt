@@ -10,5 +10,5 @@ loop-j-init c = search laws
 pub loop-j-preserved : goal.loop-j-preserved
 loop-j-preserved c = search laws
 
-pub returns-else-pid_new : goal.returns-else-pid_new
-returns-else-pid_new c = search laws
+pub returns-then-not-pid_new : goal.returns-then-not-pid_new
+returns-then-not-pid_new c = search laws

@@ -7,6 +7,3 @@ use Rattle.revocation.proofs.look.pids_differ.Given as goal
 
 abbrev pub invariant-loop-j : goal.invariant-loop-j
 invariant-loop-j l = (l.j ≤ l.p) × (all l.j (λ j. all j (λ i. apart_test (pid_at l.qs) (length_at l.qs) i j)) ≡ true)
-
-abbrev pub decreases-loop-j : goal.decreases-loop-j
-decreases-loop-j l = l.p - l.j

@@ -10,5 +10,5 @@ loop-i-init c = search laws
 pub loop-i-preserved : goal.loop-i-preserved
 loop-i-preserved c = search laws
 
-pub returns-else-reason_listed : goal.returns-else-reason_listed
-returns-else-reason_listed c = search laws
+pub returns-then-not-reason_listed : goal.returns-then-not-reason_listed
+returns-then-not-reason_listed c = search laws

@@ -6,6 +6,3 @@ use Rattle.revocation.proofs.look.reasons_listed.Given as goal
 
 abbrev pub invariant-loop-i : goal.invariant-loop-i
 invariant-loop-i l = (l.i ≤ l.n) × (all l.i (λ i. leb (reason_at l.qu i) 3) ≡ true)
-
-abbrev pub decreases-loop-i : goal.decreases-loop-i
-decreases-loop-i l = l.n - l.i

@@ -15,6 +15,3 @@ pub record Copying (qu area₀ area : List ℕ) (i : ℕ) : Type 0 where
 
 abbrev pub invariant-loop-i : goal.invariant-loop-i
 invariant-loop-i l = Copying l.qu l.initial.area l.area l.i
-
-abbrev pub decreases-loop-i : goal.decreases-loop-i
-decreases-loop-i l = length_of l.qu - l.i
