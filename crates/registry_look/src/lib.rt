@@ -1,7 +1,7 @@
 // The look over a registry: document 01's rules of it, in a few passes over what it holds.
 #![tactic(auto)]
 
-ghost use Rattle.std.specs.Prelude.{◌≡◌, ◌+◌, ◌*◌, ◌<◌, ◌≤◌, leb, eqb, length, get_or, take, is_some, IfSome};
+ghost use Rattle.std.specs.Prelude.{◌≡◌, ◌+◌, ◌*◌, ◌<◌, ◌≤◌, leb, ltb, eqb, length, get_or, take, is_some, IfSome};
 ghost use Rattle.base.specs.Below.{all};
 ghost use Rattle.base.specs.Chain.{Chained};
 ghost use Rattle.base.specs.Choose.{both};
@@ -84,6 +84,14 @@ fn unregistered(ids: &Index<'_>, id: u64) -> bool
     ids.place_of(id).is_none()
 }
 
+// The rules of one recycled id, behind another or behind 0.
+fn recycled_id_sound(ids: &Index<'_>, next: u64, last: u64, id: u64) -> bool
+    ensures { result
+        ≡ both (ltb last id) (both (ltb id next) (unregistered_id (length ids.now.words.now) (id_at ids.now.words.now) id)) }
+{
+    last < id && id < next && unregistered(ids, id)
+}
+
 // The rules of each of m recycled ids, by the index of the registered ones.
 fn recycled_sound(rg: &[u64], places: usize, m: usize, next: u64, ids: &Index<'_>) -> bool
     requires m_le_places { (m ≤ places + 1) × (places ≤ 4095) × (5 * places + 1 ≤ length rg.now) }
@@ -91,21 +99,12 @@ fn recycled_sound(rg: &[u64], places: usize, m: usize, next: u64, ids: &Index<'_
     ensures { result ≡ all m (recycled_id_test places (length ids.now.words.now) next rg.now) }
 {
     let mut last = 0;
-    let mut j = 0;
-    while j < m {
+    for j in 0..m {
         let id = rg[4 * places + j];
-        if id <= last {
+        if !recycled_id_sound(ids, next, last, id) {
             return false;
         }
-        if next <= id {
-            return false;
-        }
-        if unregistered(ids, id) {
-            last = id;
-            j += 1;
-        } else {
-            return false;
-        }
+        last = id;
     }
     true
 }
@@ -176,9 +175,7 @@ pub fn count_entries(ids: &Index<'_>, entries: &[u64], counts: &mut [u16])
     ensures { counts.new
         ≡ count_entries ids.now.words.now entries.now (length entries.now) counts.old }
 {
-    let mut j = 0;
-    while j < entries.len() {
-        count_entry(ids, counts, entries[j]);
-        j += 1;
+    for id in entries {
+        count_entry(ids, counts, *id);
     }
 }

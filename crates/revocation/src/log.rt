@@ -29,16 +29,13 @@ fn keep_by_index(log: &Index<'_>, pairs: &mut [u64], count: usize) -> usize
     ensures upper_bound { (result ≤ count) × (drop result pairs.new ≡ drop result pairs.old) }
 {
     let mut kept = 0;
-    let mut j = 0;
-    while j < count {
+    for j in 0..count {
         let pair = pairs[j];
         if has_indexed(log, pair) {
-            j += 1;
             continue;
         }
         pairs[kept] = pair;
         kept += 1;
-        j += 1;
     }
     kept
 }

@@ -30,11 +30,11 @@ module _ (ids entries counts₀ counts : List ℕ) (j : ℕ) (done : Done ids en
 
 ruleset laws = (rules, starts, same, room, few, goes, ends)
 
-pub loop-j-init : goal.loop-j-init
-loop-j-init c = search laws
+pub loop-id-init : goal.loop-id-init
+loop-id-init c = search laws
 
 pub count_entry-requires-clause-at_most : goal.count_entry-requires-clause-at_most
 count_entry-requires-clause-at_most c = search laws
 
-pub loop-j-preserved : goal.loop-j-preserved
-loop-j-preserved c = search laws
+pub loop-id-preserved : goal.loop-id-preserved
+loop-id-preserved c = search laws

@@ -1,5 +1,5 @@
--- `registry_look::count_entries` meets its contract: the entries before j are counted.
-use Rattle.std.proofs.Common.{◌≡◌, List, ℕ, ◌-◌, ◌≤◌, length}
+-- `registry_look::count_entries` meets its contract: the entries gone through are counted.
+use Rattle.std.proofs.Common.{◌≡◌, List, ℕ, ◌≤◌, length}
 use Rattle.registry.specs.Counts.{count_entries}
 use Rattle.registry_look.proofs.count_entries.Given as goal
 
@@ -8,8 +8,5 @@ pub record Done (ids entries counts₀ counts : List ℕ) (j : ℕ) : Type 0 whe
   pub inside : j ≤ length entries
   pub counted : counts ≡ count_entries ids entries j counts₀
 
-abbrev pub invariant-loop-j : goal.invariant-loop-j
-invariant-loop-j l = Done l.ids.words.now l.entries l.initial.counts l.counts l.j
-
-abbrev pub decreases-loop-j : goal.decreases-loop-j
-decreases-loop-j l = length l.entries - l.j
+abbrev pub invariant-loop-id : goal.invariant-loop-id
+invariant-loop-id l = Done l.ids.words.now l.entries l.initial.counts l.counts l.id-index

@@ -1,6 +1,7 @@
-use Rattle.std.proofs.Common.{◌≡◌, refl, sym, ◌∙◌, Bool, true, false, List, ℕ, ◌+◌, ◌<◌, ◌≤◌, add-one, arith, rules, lt-ltb, le-ltb, ap, not, eqb, length, get_or, take, get_or-take}
+use Rattle.std.proofs.Common.{◌≡◌, refl, sym, ◌∙◌, Bool, true, false, List, ℕ, ◌+◌, ◌<◌, ◌≤◌, add-one, arith, rules, ap, ltb, not, eqb, length, get_or, take, get_or-take}
 use Rattle.base.specs.Below.{all}
 use Rattle.base.specs.AllLaws.{all_none, all_more, all_done, all_broken, all_ext}
+use Rattle.base.specs.Choose.{both}
 use Rattle.registry.specs.Words.{id_at, recycled_at}
 use Rattle.registry.specs.Sound.{unregistered_id}
 use Rattle.registry_look.specs.Look.{recycled_id_test}
@@ -29,48 +30,30 @@ module _
     ends : m ≤ j → true ≡ all m (recycled_id_test places n next rg)
     ends u = all_done j m (recycled_id_test places n next rg) done.passed done.inside u
 
-    module _ (l : j < m) where
-      breaks : recycled_id_test places n next rg j ≡ false → false ≡ all m (recycled_id_test places n next rg)
-      breaks fails = all_broken j m (recycled_id_test places n next rg) l fails
-
-      not_above : recycled_at places rg j ≤ last → false ≡ all m (recycled_id_test places n next rg)
+    module _ (l : j < m) (r : Bool)
+        (e : r ≡ both (ltb last (recycled_at places rg j))
+        (both (ltb (recycled_at places rg j) next) (unregistered_id n (id_at ids) (recycled_at places rg j)))) where
+      tested : recycled_id_test places n next rg j ≡ r
       unfolding recycled_id_test
-      not_above low = breaks (rw (← done.last_is, le-ltb last (recycled_at places rg j) low))
+      tested = sym (e ∙ rw (done.last_is, of_these ids rg these (recycled_at places rg j)))
 
-      module _ (above : last < recycled_at places rg j) where
-        not_issued : next ≤ recycled_at places rg j → false ≡ all m (recycled_id_test places n next rg)
-        unfolding recycled_id_test
-        not_issued high =
-            breaks (rw (← done.last_is, lt-ltb last (recycled_at places rg j) above, le-ltb (recycled_at places rg j) next high))
+      breaks : r ≡ false → false ≡ all m (recycled_id_test places n next rg)
+      breaks no' = all_broken j m (recycled_id_test places n next rg) l (tested ∙ no')
 
-        module _ (issued : recycled_at places rg j < next) (r : Bool) (e : r ≡ unregistered_id n (id_at ids) (recycled_at places rg j)) where
-          tested : recycled_id_test places n next rg j ≡ r
-          unfolding recycled_id_test
-          tested = rw (← done.last_is, lt-ltb last (recycled_at places rg j) above, lt-ltb (recycled_at places rg j) next issued) (sym (e ∙ of_these ids rg these (recycled_at places rg j)))
+      goes : (v : ℕ) → v ≡ recycled_at places rg j → r ≡ true → Done places n m next rg v (j + 1)
+      goes v this yes' = record {
+        inside = omega arith;
+        last_is = rw (add-one, this);
+        passed = all_more j (recycled_id_test places n next rg) done.passed (tested ∙ yes');
+      }
 
-          registered : r ≡ false → false ≡ all m (recycled_id_test places n next rg)
-          registered no' = breaks (tested ∙ no')
-
-          goes : (v : ℕ) → v ≡ recycled_at places rg j → r ≡ true → Done places n m next rg v (j + 1)
-          goes v this yes' = record {
-            inside = omega arith;
-            last_is = rw (add-one, this);
-            passed = all_more j (recycled_id_test places n next rg) done.passed (tested ∙ yes');
-          }
-
-ruleset laws = (rules, starts, ends, not_above, not_issued, registered, goes)
+ruleset laws = (rules, starts, ends, breaks, goes)
 
 pub loop-j-init : goal.loop-j-init
 loop-j-init c = search laws
 
-pub returns-then-id-last : goal.returns-then-id-last
-returns-then-id-last c = search laws
-
-pub returns-then-next-id : goal.returns-then-next-id
-returns-then-next-id c = search laws
+pub returns-then-not-recycled_id_sound : goal.returns-then-not-recycled_id_sound
+returns-then-not-recycled_id_sound c = search laws
 
 pub loop-j-preserved : goal.loop-j-preserved
 loop-j-preserved c = search laws
-
-pub returns-else-unregistered : goal.returns-else-unregistered
-returns-else-unregistered c = search laws

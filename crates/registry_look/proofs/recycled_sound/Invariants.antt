@@ -1,5 +1,5 @@
 -- `registry_look::recycled_sound` meets its contract: the recycled ids before j keep their rules, and `last` is the one before j.
-use Rattle.std.proofs.Common.{◌≡◌, true, List, ℕ, ◌-◌, ◌≤◌, length}
+use Rattle.std.proofs.Common.{◌≡◌, true, List, ℕ, ◌≤◌, length}
 use Rattle.base.specs.Below.{all}
 use Rattle.registry.specs.Words.{recycled_at}
 use Rattle.registry_look.specs.Look.{before, recycled_id_test}
@@ -12,6 +12,3 @@ pub record Done (places n m next : ℕ) (rg : List ℕ) (last j : ℕ) : Type 0 
 
 abbrev pub invariant-loop-j : goal.invariant-loop-j
 invariant-loop-j l = Done l.places (length l.ids.words.now) l.m l.next l.rg l.last l.j
-
-abbrev pub decreases-loop-j : goal.decreases-loop-j
-decreases-loop-j l = l.m - l.j
