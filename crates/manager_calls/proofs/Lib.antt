@@ -1,3 +1,2 @@
 -- What the proofs of `manager_calls` share, and those of `delegation_calls`.
-pub mod Validity
 pub mod Admitting

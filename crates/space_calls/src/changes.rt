@@ -59,7 +59,7 @@ pub fn clear(mem: &mut [u64], s: usize) -> Result<Done, Refused>
 }
 
 /// For process cleanup: all entries leave, and the space's generation goes up.
-#[tactic(auto, unfolding(crate::specs::Calls::revoke_all_out, steps::specs::Enter::on_space))]
+#[tactic(auto, using(steps::proofs::laws::Kept::kept_ready, steps::proofs::laws::SpaceSteps::clear_step_kept), unfolding(crate::specs::Calls::revoke_all_out, steps::specs::Enter::on_space))]
 pub fn revoke_all(mem: &mut [u64], s: usize) -> Result<Done, Refused>
     ensures { record { reply = told result; memory = mem.new } ≡ revoke_all_out mem.old s }
 {
