@@ -51,7 +51,7 @@ fn delegate_from(
     let l = spaces::lookup(mem, d, source, token);
     let held = l.got.ok_or(Refusal::InvalidCapability)?.rights;
     if !held.contains(Rights::GRANT) {
-        Err(Refusal::PermissionDenied)?;
+        return Err(Refusal::PermissionDenied.into());
     }
     offer_or_derive(mem, d, target, token, held.intersection(rights))
 }
@@ -72,7 +72,7 @@ pub fn delegate(
 {
     let d = enter_space(mem, source)?;
     if d.spaces <= target {
-        Err(Refusal::BadSpace)?;
+        return Err(Refusal::BadSpace.into());
     }
     delegate_from(mem, d, token, source, target, rights)
 }

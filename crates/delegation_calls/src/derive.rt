@@ -98,7 +98,7 @@ pub fn with_room(
     }
     collect(mem, d, p);
     if 1024 <= child_count(mem, d, p) {
-        Err(Refusal::QuotaExceeded)?;
+        return Err(Refusal::QuotaExceeded.into());
     }
     derive(mem, d, target, token, rights)
 }

@@ -1,14 +1,16 @@
 -- What a registered id needs until its entry is in a space: room to recycle it, which steps on the registry and on a space keep; and the
 -- two ways of an admission.
-use Rattle.std.proofs.Common.{false, List, ◌≡◌, sym, ap, ◌∙◌, ℕ, ◌-◌, ◌<◌, ◌≤◌, arith, ne_eqb, eqb}
-use Rattle.answers.specs.Number.{number_of}
-use Rattle.answers.specs.Answer.{OutOfMemory}
+use Rattle.std.proofs.Common.{List, ◌≡◌, sym, ap, ◌∙◌, ℕ, ◌-◌, ◌<◌, ◌≤◌, arith, Result, Ok, Err}
+use Rattle.answers.specs.Answer.{Done, Refuses, OutOfMemory}
+use Rattle.answers.specs.NumberLaws.{refusal_some}
+use Rattle.base.specs.Choose.{pick}
 use Rattle.space.specs.Change.{InsertOut, insert_out}
-use Rattle.space.proofs.laws.Insert.{zero_is_done}
 use Rattle.steps.proofs.laws.ReadyKept.{Stays, Leaves, register_leaves}
 use Rattle.steps.specs.Ready.{Ready}
-use Rattle.steps.specs.Replies.{Left, refuse, Reply}
+use Rattle.steps.specs.Replies.{Left, Reply, told, refuse}
 use Rattle.steps.specs.Steps.{space_of, new_entry, insert_step, insert_reply, register_step, unregister_step, recycle_step, add_step}
+use Rattle.steps.specs.declared.replies.Done.{Done as DoneReply}
+use Rattle.steps.specs.declared.replies.Refused.{Refused}
 use Rattle.world.specs.Numbers.{registered_of, recycled_of}
 use Rattle.world.specs.declared.Numbers.{Numbers}
 use Rattle.manager_calls.specs.Admit.{admitted}
@@ -33,31 +35,35 @@ room_registered d mem id object link ready free room =
     let (still, enough) = room_left d mem (register_step d id object link mem) room _ leaves in
     (still, omega (arith, leaves.word), enough)
 
--- ---- an admission, by the number of the insert's answer
+-- ---- an admission, by the outcome of the insert
 
 module _ (d : Numbers) (s id token object rights i : ℕ) (mem mid : List ℕ)
     (inserted : mid ≡ insert_step d s (new_entry token object rights) mem)
-    (reply : Reply) (told : reply ≡ insert_reply token (insert_out (space_of d s mem) (new_entry token object rights)))
-    (number : ℕ) (numbered : number ≡ number_of reply.answer)
+    (r : Result DoneReply Refused) (replies : told r ≡ insert_reply token (insert_out (space_of d s mem) (new_entry token object rights)))
   where
     abbrev out : InsertOut
     out = insert_out (space_of d s mem) (new_entry token object rights)
 
-    is_number : number ≡ number_of out.answer
-    is_number = numbered ∙ ap (λ (r : Reply). number_of r.answer) told
+    is_answer : (told r).answer ≡ out.answer
+    is_answer = ap (λ (reply : Reply). reply.answer) replies
+
+    is_count : (told r).count ≡ out.moved
+    is_count = ap (λ (reply : Reply). reply.count) replies
 
     pub admits :
-        (after : List ℕ) → after ≡ add_step i 1 mid → number ≡ 0
-        → record { reply = reply; memory = after } ≡ admitted d s id token object rights i mem
+        (done : DoneReply) → r ≡ Ok done → (after : List ℕ) → after ≡ add_step i 1 mid
+        → record { reply = told (Ok done); memory = after } ≡ admitted d s id token object rights i mem
     unfolding admitted
-    admits after counted zero =
-        let done = zero_is_done (space_of d s mem) (new_entry token object rights) (sym is_number ∙ zero) in
-        rw (told, done, counted, inserted)
+    admits done accepted after counted =
+        let is_done : out.answer ≡ Done = sym is_answer ∙ ap (λ r. (told r).answer) accepted in
+        let same : told (Ok done) ≡ told r = ap told (sym accepted) in
+        rw (same, replies, is_done, counted, inserted)
 
     pub takes_back :
-        (left : Left Reply) → left ≡ refuse (recycle_step d id (unregister_step d (registered_of mid - 1) mid)) OutOfMemory → ¬ (number ≡ 0)
+        (refused : Refused) → r ≡ Err refused → (left : Left Reply)
+        → left ≡ refuse (recycle_step d id (unregister_step d (registered_of mid - 1) mid)) OutOfMemory
         → left ≡ admitted d s id token object rights i mem
     unfolding admitted
-    takes_back left is some =
-        let no : eqb (number_of out.answer) 0 ≡ false = rw (← is_number) (ne_eqb number 0 some) in
-        rw (no, is, inserted)
+    takes_back refused refuses left is =
+        let is_refusal : out.answer ≡ Refuses refused.refusal = sym is_answer ∙ ap (λ r. (told r).answer) refuses in
+        rw (is_refusal, refusal_some refused.refusal, is, inserted)

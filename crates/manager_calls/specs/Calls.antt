@@ -19,8 +19,6 @@ use Rattle.world.specs.Regions.{registry, view}
 use Rattle.world.specs.declared.Numbers.{Numbers}
 use Rattle.manager_calls.specs.Admit.{admitted}
 use Rattle.manager_calls.specs.Tokens.{token_of, current}
-use Rattle.manager_calls.specs.declared.StatsReply.{StatsReply}
-use Rattle.manager_calls.specs.declared.TreeReply.{TreeReply}
 use Rattle.table.specs.declared.CapabilityEntry.{CapabilityEntry}
 use Rattle.manager_calls.specs.declared.ManagerStats.{ManagerStats}
 use Rattle.manager_calls.specs.declared.Tree.{Tree}

@@ -25,6 +25,7 @@ pub fn give_back(mem: &mut [u64], d: Numbers, id: u64, refusal: Refusal) -> Refu
 }
 
 // The id registered last leaves the registry and its parent's list.
+#[tactic(auto, using(steps::proofs::laws::ReadyKept::unregister_leaves, crate::proofs::Admitting::room_left))]
 fn take_back(mem: &mut [u64], d: Numbers, id: u64) -> Refused
     requires { Ready d mem.old × (0 < registered_of mem.old) × (recycled_of mem.old ≤ d.places) }
     ensures { record { reply = told (Err result); memory = mem.new }
@@ -36,7 +37,7 @@ fn take_back(mem: &mut [u64], d: Numbers, id: u64) -> Refused
 }
 
 // The entry of the id registered last goes into space s, and is counted in word i of the head.
-#[tactic(auto, using(crate::proofs::Admitting::admits))]
+#[tactic(auto, using(steps::proofs::laws::ReadyKept::insert_stays, crate::proofs::Admitting::room_stays))]
 pub fn admit(
     mem: &mut [u64],
     d: Numbers,

@@ -17,7 +17,7 @@ use world::Numbers;
 use world::head::{CREATED, REGISTERED};
 
 // The id that was taken is registered and its entry inserted.
-#[tactic(auto, unfolding(base::specs::Choose::when))]
+#[tactic(auto, using(crate::proofs::Admitting::room_registered), unfolding(base::specs::Choose::when))]
 fn create_with(
     mem: &mut [u64],
     d: Numbers,
@@ -41,7 +41,7 @@ fn create_with(
 
 /// The source's `create_capability`: the value is the token, the count how many entries its insert moved. 21 for a type over 15, 5 for an
 /// object that is not valid, 9 where no id is left, 22 where the registry is full, 4 where the space refuses the entry.
-#[tactic(auto, unfolding(crate::specs::Calls::create_out, steps::specs::Enter::on_space, base::specs::Choose::when))]
+#[tactic(auto, using(steps::proofs::laws::ReadyKept::ready_take, steps::proofs::laws::ReadyKept::take_room), unfolding(crate::specs::Calls::create_out, steps::specs::Enter::on_space, base::specs::Choose::when))]
 pub fn create_capability(
     mem: &mut [u64],
     s: usize,
@@ -54,10 +54,10 @@ pub fn create_capability(
 {
     let d = enter_space(mem, s)?;
     if 15 < cap_type {
-        Err(Refusal::BadField)?;
+        return Err(Refusal::BadField.into());
     }
     if !valid {
-        Err(Refusal::InvalidObject)?;
+        return Err(Refusal::InvalidObject.into());
     }
     let id = take_id(mem, d).ok_or(Refusal::IdExhausted)?;
     create_with(mem, d, s, object, cap_type, rights, id)

@@ -15,6 +15,7 @@ use world::Numbers;
 use world::head::{DELETED, RECYCLED, REGISTERED};
 
 // The id of place k leaves and is recycled; the deletion is counted.
+#[tactic(auto, using(steps::proofs::laws::ReadyKept::unregister_leaves, crate::proofs::Admitting::room_left))]
 fn delete_at(mem: &mut [u64], d: Numbers, k: usize, id: u64)
     requires { Ready d mem.old × (k < registered_of mem.old) × (recycled_of mem.old ≤ d.places) }
     ensures { mem.new ≡ add_step 10 1 (recycle_step d id (unregister_step d k mem.old)) }
@@ -34,10 +35,10 @@ pub fn delete(mem: &mut [u64], token: CapabilityToken) -> Result<Done, Refused>
     let id = token.id();
     let k = place_of(mem, d, id);
     if mem[REGISTERED] as usize <= k {
-        Err(Refusal::NotFound)?;
+        return Err(Refusal::NotFound.into());
     }
     if d.places < mem[RECYCLED] as usize {
-        Err(Refusal::RecycleFull)?;
+        return Err(Refusal::RecycleFull.into());
     }
     delete_at(mem, d, k, id);
     Ok(Done::with(0))

@@ -26,18 +26,18 @@ pub fn stats(mem: &[u64]) -> Result<ManagerStats, Refusal>
 
 /// The children of an id in list order, to the front of `area`; the value is how many. 21 for an id of more than 48 bits, or an area that is
 /// too short for them.
-#[tactic(auto, unfolding(crate::specs::Calls::children_out, steps::specs::Enter::on_world, steps::specs::Replies::into_area, base::specs::Choose::when))]
+#[tactic(auto, using(crate::proofs::Listing::listing), unfolding(crate::specs::Calls::children_out, steps::specs::Enter::on_world, steps::specs::Replies::into_area, base::specs::Choose::when))]
 pub fn get_children(mem: &[u64], id: u64, area: &mut [u64]) -> Result<Done, Refused>
     ensures { record { reply = told result; area = area.new } ≡ children_out mem.now id area.old }
 {
     let d = enter_world(mem)?;
     if 0x1_0000_0000_0000 <= id {
-        Err(Refusal::BadField)?;
+        return Err(Refusal::BadField.into());
     }
     let p = registered::place_of(mem, d, id);
     let count = registered::child_count(mem, d, p);
     if area.len() < count {
-        Err(Refusal::BadField)?;
+        return Err(Refusal::BadField.into());
     }
     registered::list_children(mem, d, p, area);
     Ok(Done::with(count as u64))

@@ -77,7 +77,7 @@ pub fn copy(mem: &mut [u64], target: usize, source: usize) -> Result<Done, Refus
 {
     let d = enter_space(mem, target)?;
     if d.spaces <= source {
-        Err(Refusal::BadSpace)?;
+        return Err(Refusal::BadSpace.into());
     }
     let c = spaces::copy(mem, d, target, source);
     Ok(Done {

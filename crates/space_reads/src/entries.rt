@@ -68,7 +68,7 @@ pub fn get_entry(mem: &[u64], s: usize, id: u64) -> Result<FoundEntry, Refused>
 {
     let d = enter_space(mem, s)?;
     if 0x1_0000_0000_0000 <= id {
-        Err(Refusal::BadField)?;
+        return Err(Refusal::BadField.into());
     }
     let l = spaces::get_entry(mem, d, s, id);
     let entry = l.got.ok_or(Refused::after(Refusal::NotFound, l.visits))?;
