@@ -1,5 +1,5 @@
 -- Document 01: lookup matches the whole token and counts hits, misses and uses in 64 bits, wrapping.
-use Rattle.std.specs.Prelude.{◌≡◌, ℕ, ◌+◌, ◌*◌, ◌%◌, ◌^◌, Bool, true, false, List, ◌==◌, slice_index, slice_set, Option, None, Some}
+use Rattle.std.specs.Prelude.{◌≡◌, ℕ, ◌+◌, ◌*◌, ◌%◌, ◌^◌, Bool, List, is_some, ◌==◌, slice_index, slice_set, Option, None, Some}
 use Rattle.base.specs.Choose.{pick}
 use Rattle.table.specs.Walk.{search, got_at}
 use Rattle.table.specs.declared.Search.{Search}
@@ -12,8 +12,7 @@ abbrev pub up : ℕ → ℕ
 up n = (n + 1) % 2 ^ 64
 
 abbrev pub is_found : Option ℕ → Bool
-is_found (Some i) = true
-is_found None = false
+is_found f = is_some f
 
 -- The search for an id.
 abbrev pub search_id : List ℕ → ℕ → Search

@@ -4,7 +4,7 @@ ghost use Rattle.space.specs.Words.{quota_of, table_of, InRange, SlotOf};
 ghost use Rattle.space.specs.Lookup.{is_found, search_id, looked_up};
 ghost use Rattle.space.specs.Change.{inserted_table, inserted, insert_out, answered, removed, removed_token, cleared, next_generation};
 
-use super::find::{entry_of, exact, is_found, search_id};
+use super::find::{entry_of, exact, search_id};
 use super::words::{TABLE, generation, put_generation, put_table, quota, table_of, used};
 use super::LookedUp;
 use answers::Refusal;
@@ -16,7 +16,7 @@ fn holds_id(sp: &[u64], id: u64) -> bool
     requires { InRange sp.now }
     ensures { result ≡ is_found (search_id sp.now id).found }
 {
-    is_found(search_id(sp, id))
+    search_id(sp, id).found.is_some()
 }
 
 fn accept(sp: &mut [u64], entry: CapabilityEntry) -> usize
@@ -26,8 +26,7 @@ fn accept(sp: &mut [u64], entry: CapabilityEntry) -> usize
 {
     let t = table_of(sp);
     let s = table::insert_new(&mut sp[TABLE..], t, entry);
-    let after = s.table;
-    put_table(sp, after);
+    put_table(sp, s.table);
     s.moved
 }
 
@@ -36,11 +35,10 @@ pub fn insert(sp: &mut [u64], entry: CapabilityEntry) -> Result<usize, Refusal>
     requires { InRange sp.old }
     ensures { answered result sp.new ≡ insert_out sp.old entry }
 {
-    let capability = entry.capability;
     if quota(sp) <= used(sp) {
         return Err(Refusal::SpaceQuota);
     }
-    if holds_id(sp, capability.id()) {
+    if holds_id(sp, entry.capability.id()) {
         return Err(Refusal::AlreadyExists);
     }
     Ok(accept(sp, entry))
@@ -53,8 +51,7 @@ fn remove_slot(sp: &mut [u64], i: usize)
 {
     let t = table_of(sp);
     let s = table::remove_at(&mut sp[TABLE..], t, i);
-    let after = s.table;
-    put_table(sp, after);
+    put_table(sp, s.table);
 }
 
 // Only exactly this token removes its entry, which is the answer; a stale one leaves the live capability alone.
@@ -65,11 +62,9 @@ pub fn remove(sp: &mut [u64], token: CapabilityToken) -> LookedUp
 {
     let s = exact(sp, token);
     let answer = entry_of(sp, s);
-    let found = s.found;
-    let Some(i) = found else {
-        return answer;
-    };
-    remove_slot(sp, i);
+    if let Some(i) = s.found {
+        remove_slot(sp, i);
+    }
     answer
 }
 
@@ -77,18 +72,13 @@ pub fn clear(sp: &mut [u64])
     requires { InRange sp.old }
     ensures { sp.new ≡ cleared sp.old }
 {
-    let none = CapTable {
-        slots: 0,
-        full: 0,
-        tombstones: 0,
-    };
-    put_table(sp, none);
+    put_table(sp, CapTable::EMPTY);
 }
 
 pub fn next_generation(sp: &mut [u64])
     requires { InRange sp.old }
     ensures { sp.new ≡ next_generation sp.old }
 {
-    let next = std::num::wrapping_add_u8(generation(sp), 1);
+    let next = generation(sp).wrapping_add(1);
     put_generation(sp, next);
 }

@@ -22,8 +22,7 @@ pub fn replace(sp: &mut [u64], scratch: &[u64; 2048], count: usize, generation: 
     ensures value { result ≡ (replacement sp.old scratch.now count).moved }
 {
     let s = table::copy_from(&mut sp[TABLE..], scratch, count);
-    let after = s.table;
-    put_table(sp, after);
+    put_table(sp, s.table);
     put_generation(sp, generation);
     s.moved
 }

@@ -4,43 +4,32 @@ ghost use Rattle.std.specs.Prelude.{◌≡◌};
 ghost use Rattle.space.specs.Words.{InRange};
 ghost use Rattle.space.specs.Counters.{one_counted, search_and, counted_search};
 
-use super::find::{exact, is_found};
+use super::find::exact;
 use table::Search;
 use token::CapabilityToken;
 
-#[derive(Clone, Copy)]
+#[derive(Clone, Copy, PartialEq, Eq, Debug)]
 pub struct Counters {
     pub hits: u64,
     pub misses: u64,
 }
 
 // A search, and the counters after it.
-#[derive(Clone, Copy)]
+#[derive(Clone, Copy, PartialEq, Eq, Debug)]
 pub struct CountedSearch {
     pub search: Search,
     pub counters: Counters,
-}
-
-fn counted(c: Counters, hit: bool) -> Counters
-    ensures { result ≡ one_counted c hit }
-{
-    if hit {
-        return Counters {
-            hits: std::num::wrapping_add_u64(c.hits, 1),
-            misses: c.misses,
-        };
-    }
-    Counters {
-        hits: c.hits,
-        misses: std::num::wrapping_add_u64(c.misses, 1),
-    }
 }
 
 // One hit or one miss more, where the record stands.
 fn count(c: &mut Counters, hit: bool)
     ensures { c.new ≡ one_counted c.old hit }
 {
-    *c = counted(*c, hit);
+    if hit {
+        c.hits = c.hits.wrapping_add(1);
+    } else {
+        c.misses = c.misses.wrapping_add(1);
+    }
 }
 
 // The lookup that counts: where exactly the token is found, a hit or a miss.
@@ -49,7 +38,7 @@ fn lookup_counted(sp: &[u64], token: CapabilityToken, c: &mut Counters) -> Searc
     ensures { search_and result c.new ≡ counted_search sp.now token.0 c.old }
 {
     let s = exact(sp, token);
-    count(c, is_found(s));
+    count(c, s.found.is_some());
     s
 }
 
@@ -58,10 +47,7 @@ pub fn lend(sp: &[u64], token: CapabilityToken, c: Counters) -> CountedSearch
     requires { InRange sp.now }
     ensures { result ≡ counted_search sp.now token.0 c }
 {
-    let mut lent = c;
-    let search = lookup_counted(sp, token, &mut lent);
-    CountedSearch {
-        search: search,
-        counters: lent,
-    }
+    let mut counters = c;
+    let search = lookup_counted(sp, token, &mut counters);
+    CountedSearch { search, counters }
 }

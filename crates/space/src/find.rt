@@ -4,7 +4,7 @@ ghost use Rattle.table.specs.Slots.{entry_at};
 ghost use Rattle.table.specs.Insert.{live_entries};
 ghost use Rattle.table.specs.Copy.{nth_of};
 ghost use Rattle.space.specs.Words.{table_of, slot_words, InRange, SlotOf};
-ghost use Rattle.space.specs.Lookup.{is_found, search_id, SearchOf, entry_of, wholly, exact_search, counted, looked_up, got_entry, with_use};
+ghost use Rattle.space.specs.Lookup.{search_id, SearchOf, entry_of, wholly, exact_search, counted, looked_up, got_entry, with_use};
 
 use super::LookedUp;
 use super::counters::lend;
@@ -19,16 +19,6 @@ pub fn search_id(sp: &[u64], id: u64) -> Search
     table::find(&sp[TABLE..], table_capacity(sp), id)
 }
 
-pub fn is_found(s: Search) -> bool
-    ensures { result ≡ is_found s.found }
-{
-    let found = s.found;
-    match found {
-        Some(_) => true,
-        None => false,
-    }
-}
-
 fn entry_at(sp: &[u64], i: usize) -> CapabilityEntry
     requires { SlotOf sp.now i }
     ensures { result ≡ entry_at (slot_words sp.now) i }
@@ -41,15 +31,8 @@ pub fn entry_of(sp: &[u64], s: Search) -> LookedUp
     requires { SearchOf sp.now s }
     ensures { result ≡ entry_of sp.now s }
 {
-    let found = s.found;
-    let Some(i) = found else {
-        return LookedUp {
-            got: None,
-            visits: s.visits,
-        };
-    };
     LookedUp {
-        got: Some(entry_at(sp, i)),
+        got: s.found.map(|i| entry_at(sp, i)),
         visits: s.visits,
     }
 }
@@ -59,10 +42,7 @@ fn whole(sp: &[u64], token: u64, i: usize) -> Option<usize>
     requires { SlotOf sp.now i }
     ensures { result ≡ wholly sp.now token (Some i) }
 {
-    if sp[TABLE + 4 * i] == token {
-        return Some(i);
-    }
-    None
+    (sp[TABLE + 4 * i] == token).then_some(i)
 }
 
 // The slot that holds exactly the token, and the slots that the search of its id visited.
@@ -71,13 +51,12 @@ pub fn exact(sp: &[u64], token: CapabilityToken) -> Search
     ensures { result ≡ exact_search sp.now token.0 }
 {
     let s = search_id(sp, token.id());
-    let found = s.found;
-    let Some(i) = found else {
+    let Some(i) = s.found else {
         return s;
     };
     Search {
         found: whole(sp, token.0, i),
-        visits: s.visits,
+        ..s
     }
 }
 
@@ -86,7 +65,7 @@ fn count_use(sp: &mut [u64], i: usize)
     ensures { sp.new ≡ with_use sp.old i }
 {
     let at = TABLE + 4 * i + 2;
-    sp[at] = std::num::wrapping_add_u64(sp[at], 1);
+    sp[at] = sp[at].wrapping_add(1);
 }
 
 // Lookup of exactly this token, counted: the counters are lent and stored when they have come back. The entry is answered as it was before
@@ -97,16 +76,11 @@ pub fn lookup(sp: &mut [u64], token: CapabilityToken) -> LookedUp
     ensures value { result ≡ looked_up sp.old token.0 }
 {
     let counted = lend(sp, token, counters_of(sp));
-    let s = counted.search;
-    let after = counted.counters;
-    let answer = entry_of(sp, s);
-    let found = s.found;
-    let Some(i) = found else {
-        put_counters(sp, after);
-        return answer;
-    };
-    count_use(sp, i);
-    put_counters(sp, after);
+    let answer = entry_of(sp, counted.search);
+    if let Some(i) = counted.search.found {
+        count_use(sp, i);
+    }
+    put_counters(sp, counted.counters);
     answer
 }
 

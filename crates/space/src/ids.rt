@@ -11,17 +11,12 @@ pub fn entry_ids(sp: &[u64], ids: &mut [u64]) -> usize
     requires { InRange sp.now × (512 ≤ length ids.old) }
     ensures { (take result ids.new ≡ entry_ids sp.now) × (result ≤ 512) × (result ≤ length ids.new) }
 {
-    let slots = table_capacity(sp);
     let mut count = 0;
-    let mut i = 0;
-    while i < slots {
-        let Slot::Full(entry) = table::slot_at(&sp[TABLE..], i) else {
-            i += 1;
-            continue;
-        };
-        ids[count] = table::id_of(entry);
-        count += 1;
-        i += 1;
+    for i in 0..table_capacity(sp) {
+        if let Slot::Full(entry) = table::slot_at(&sp[TABLE..], i) {
+            ids[count] = table::id_of(entry);
+            count += 1;
+        }
     }
     count
 }

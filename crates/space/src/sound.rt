@@ -9,11 +9,7 @@ pub fn is_sound(sp: &[u64], most: usize) -> bool
     requires { (most ≤ 256) × (words_for most ≤ length sp.now) }
     ensures { result ≡ space_test most sp.now }
 {
-    if 255 < sp[GENERATION] {
-        return false;
-    }
-    if most < sp[QUOTA] as usize {
-        return false;
-    }
-    table_look::is_sound(&sp[TABLE..], table_of(sp), most)
+    sp[GENERATION] <= 255
+        && sp[QUOTA] as usize <= most
+        && table_look::is_sound(&sp[TABLE..], table_of(sp), most)
 }

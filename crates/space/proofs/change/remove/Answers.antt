@@ -27,8 +27,8 @@ returns-in_default-clause-value c = search (stays, find_laws)
 pub remove_slot-requires : goal.remove_slot-requires
 remove_slot-requires c = search find_laws
 
-pub returns-clause-sp_after : goal.returns-clause-sp_after
-returns-clause-sp_after c = search (goes, find_laws)
+pub returns-in-Some-clause-sp_after : goal.returns-in-Some-clause-sp_after
+returns-in-Some-clause-sp_after c = search (goes, find_laws)
 
-pub returns-clause-value : goal.returns-clause-value
-returns-clause-value c = search (goes, find_laws)
+pub returns-in-Some-clause-value : goal.returns-in-Some-clause-value
+returns-in-Some-clause-value c = search (goes, find_laws)

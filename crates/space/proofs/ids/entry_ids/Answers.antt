@@ -32,20 +32,18 @@ module _ (ids : List ℕ) (count : ℕ) (ws : List ℕ) (slots i : ℕ) (all : L
         let (lives, has) = full_slot ws i s is e full in
         rw (add-one count, add-one i, take-suc-set ids count id room, append_assoc, same, has) (rw (more, lives) at put)
 
-ends : (sp ids : List ℕ) (slots i count : ℕ) → known ids count (lent sp) slots i ≡ ids_of (live_entries (lent sp) 0 slots)
+ends : (sp ids : List ℕ) (slots i count : ℕ)
+    → known ids count (lent sp) (table_of sp).slots i ≡ ids_of (live_entries (lent sp) 0 (table_of sp).slots)
     → slots ≡ (table_of sp).slots → slots ≤ i → take count ids ≡ entry_ids sp
 unfolding known live_entries ids_of entry_ids
 ends sp ids slots i count put same l =
-    let none : slots - i ≡ 0 = omega arith in
-    rw (none, append-nil, lent_rest, same) at put
+    let none : (table_of sp).slots - i ≡ 0 = omega arith in
+    rw (none, append-nil, lent_rest) at put
 
 ruleset laws = (starts, passes, counts, ends, rules)
 
 pub loop-i-init : goal.loop-i-init
 loop-i-init c = search laws
-
-pub loop-i-preserved-in_default : goal.loop-i-preserved-in_default
-loop-i-preserved-in_default c = search laws
 
 pub loop-i-preserved : goal.loop-i-preserved
 loop-i-preserved c = search laws

@@ -1,5 +1,5 @@
 -- `space::ids::entry_ids` meets its contract. The invariant: the ids put so far, with those of the entries from slot i on, are the
--- answer. The measure is the slots that are left.
+-- answer.
 use Rattle.std.proofs.Common.{◌≡◌, ℕ, ◌-◌, ◌≤◌, List, ◌++◌, length, take, drop}
 use Rattle.table.specs.Insert.{live_entries}
 use Rattle.space.specs.Ids.{ids_of}
@@ -16,8 +16,5 @@ known ids count ws slots i = take count ids ++ ids_of (live_entries ws i (slots 
 
 abbrev pub invariant-loop-i : goal.invariant-loop-i
 invariant-loop-i l =
-    (l.i ≤ l.slots) × (l.count ≤ l.i) × (l.slots ≡ (table_of l.sp).slots) × (length l.ids ≡ length l.initial.ids)
-    × (known l.ids l.count (lent l.sp) l.slots l.i ≡ ids_of (live_entries (lent l.sp) 0 l.slots))
-
-abbrev pub decreases-loop-i : goal.decreases-loop-i
-decreases-loop-i l = l.slots - l.i
+    (l.count ≤ l.i) × (length l.ids ≡ length l.initial.ids)
+    × (known l.ids l.count (lent l.sp) (table_of l.sp).slots l.i ≡ ids_of (live_entries (lent l.sp) 0 (table_of l.sp).slots))

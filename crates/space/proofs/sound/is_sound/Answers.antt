@@ -1,32 +1,33 @@
 -- `space::sound::is_sound` meets its contract: its three tests are those of `space_test`.
-use Rattle.std.proofs.Common.{◌≡◌, ℕ, ◌-◌, ◌^◌, ◌<◌, ◌≤◌, Bool, false, List, length, take, drop, arith, le-ltb, lt-ltb, le-leb}
-use Rattle.std.proofs.lemmas.Bool.{lt-leb}
+use Rattle.std.proofs.Common.{◌≡◌, ℕ, ◌-◌, ◌^◌, ◌<◌, ◌≤◌, Bool, true, false, List, leb, length, take, drop, arith, rules, le-ltb, lt-ltb}
 use Rattle.table.specs.Sound.{sound_test}
 use Rattle.table.specs.declared.CapTable.{CapTable}
 use Rattle.space.specs.Words.{quota_of, generation_of, table_of}
 use Rattle.space.specs.Sound.{space_test}
 use Rattle.space.proofs.Lent.{lent_rest}
+use Rattle.space.proofs.sound.is_sound.Goals.{then-sp-le255, else-sp-le255}
 use Rattle.space.proofs.sound.is_sound.Goals as goal
 
-module _ (most : ℕ) (sp : List ℕ) where
-  no_generation : 255 < generation_of sp → false ≡ space_test most sp
+module _ (most : ℕ) (sp : List ℕ) (v : Bool) where
+  no_generation : 255 < generation_of sp → v ≡ false → v ≡ space_test most sp
   unfolding space_test
-  no_generation l = rw (le-ltb (generation_of sp) (2 ^ 8) l)
+  no_generation l e = rw (e, le-ltb (generation_of sp) (2 ^ 8) l)
 
-  no_quota : generation_of sp ≤ 255 → most < quota_of sp → false ≡ space_test most sp
+  no_quota : generation_of sp ≤ 255 → v ≡ leb (quota_of sp) most → v ≡ false → v ≡ space_test most sp
   unfolding space_test
-  no_quota g l = rw (lt-ltb (generation_of sp) (2 ^ 8) (omega arith), lt-leb (quota_of sp) most l)
+  no_quota g is e = rw (lt-ltb (generation_of sp) (2 ^ 8) (omega arith), ← is, e)
 
-  rest : (t : CapTable) (r : Bool) → generation_of sp ≤ 255 → quota_of sp ≤ most → t ≡ table_of sp
+  rest : (t : CapTable) (r : Bool) → generation_of sp ≤ 255 → v ≡ leb (quota_of sp) most → v ≡ true → t ≡ table_of sp
       → r ≡ sound_test most (take (length sp - 8) (drop 8 sp)) t → r ≡ space_test most sp
   unfolding space_test
-  rest t r g q counts test = rw (test, counts, lent_rest, lt-ltb (generation_of sp) (2 ^ 8) (omega arith), le-leb (quota_of sp) most q)
+  rest t r g is e counts test = rw (test, counts, lent_rest, lt-ltb (generation_of sp) (2 ^ 8) (omega arith), ← is, e)
 
-pub returns-then-sp-gt255 : goal.returns-then-sp-gt255
-returns-then-sp-gt255 c = search no_generation
+ruleset laws = (rules, no_generation, no_quota, rest)
 
-pub returns-then-most-sp : goal.returns-then-most-sp
-returns-then-most-sp c = search no_quota
+pub returns-then-sp-most : goal.returns-then-sp-most
+returns-then-sp-most c =
+    elim c.if-sp-le255.branch [ then-sp-le255 w ↦ search laws | else-sp-le255 w ↦ search laws ]
 
-pub returns : goal.returns
-returns c = search rest
+pub returns-else-sp-most : goal.returns-else-sp-most
+returns-else-sp-most c =
+    elim c.if-sp-le255.branch [ then-sp-le255 w ↦ search laws | else-sp-le255 w ↦ search laws ]
