@@ -2,4 +2,5 @@
 pub mod laws
 pub mod Lent
 pub mod CodeFind
+pub mod CodeSound
 pub mod CodeChange

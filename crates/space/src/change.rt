@@ -4,9 +4,9 @@ ghost use Rattle.space.specs.Words.{quota_of, table_of, InRange, SlotOf};
 ghost use Rattle.space.specs.Lookup.{is_found, search_id, looked_up};
 ghost use Rattle.space.specs.Change.{inserted_table, inserted, insert_out, answered, removed, removed_token, cleared, next_generation};
 
+use super::LookedUp;
 use super::find::{entry_of, exact, search_id};
 use super::words::{TABLE, generation, put_generation, put_table, quota, table_of, used};
-use super::LookedUp;
 use answers::Refusal;
 use table::{CapTable, CapabilityEntry};
 use token::CapabilityToken;

@@ -5,6 +5,7 @@ ghost use Rattle.space.specs.Sound.{space_test};
 
 use super::words::{GENERATION, QUOTA, TABLE, table_of};
 
+#[tactic(auto, using(crate::proofs::CodeSound::sound_laws))]
 pub fn is_sound(sp: &[u64], most: usize) -> bool
     requires { (most ≤ 256) × (words_for most ≤ length sp.now) }
     ensures { result ≡ space_test most sp.now }
