@@ -1,6 +1,6 @@
 -- The words of a slot. Slot i stands in words 4i to 4i + 3: token, object, uses, tag. The tag is kind * 2^32 + rights, and the
 -- kind alone says what the slot is: 0 empty, 1 removed, 2 full. An id of 0 and a token of 0 are ordinary entries.
-use Rattle.std.specs.Prelude.{Bool, List, ℕ, ◌+◌, ◌*◌, ◌/◌, ◌%◌, ◌^◌, eqb, ltb, get_or, set}
+use Rattle.std.specs.Prelude.{Bool, List, ℕ, ◌+◌, ◌*◌, ◌/◌, ◌%◌, ◌^◌, eqb, get_or, set}
 use Rattle.base.specs.Choose.{pick}
 use Rattle.token.specs.Token.{id_of as token_id}
 use Rattle.table.specs.declared.CapabilityEntry.{CapabilityEntry}
@@ -21,15 +21,14 @@ is_removed ws i = eqb (kind_at ws i) 1
 abbrev pub is_live : List ℕ → ℕ → Bool
 is_live ws i = eqb (kind_at ws i) 2
 
--- What a number says of a slot, and whether it says that.
-abbrev pub kind_of : ℕ → Kind
-kind_of n = pick (eqb n 0) kind.Empty (pick (eqb n 1) kind.Removed (pick (eqb n 2) kind.Full kind.Unlisted))
+-- The number of a kind, and whether a number is that.
+abbrev pub number_of : Kind → ℕ
+number_of kind.Empty = 0
+number_of kind.Removed = 1
+number_of kind.Full = 2
 
 abbrev pub is_kind : Kind → ℕ → Bool
-is_kind kind.Empty n = eqb n 0
-is_kind kind.Removed n = eqb n 1
-is_kind kind.Full n = eqb n 2
-is_kind kind.Unlisted n = ltb 2 n
+is_kind k n = eqb n (number_of k)
 
 -- The id is the token's.
 abbrev pub id_at : List ℕ → ℕ → ℕ

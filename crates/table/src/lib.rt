@@ -15,7 +15,7 @@ pub use insert::{gather, id_of, insert_new, slots_for};
 pub use remove::remove_at;
 use token::{CapabilityToken, Rights};
 pub use walk::{find, get};
-pub use words::{entry_at, id_at, is_kind, slot_at};
+pub use words::{entry_at, id_at, is_kind, kind_at, slot_at};
 
 // A single capability entry.
 #[derive(Clone, Copy, PartialEq, Eq, Debug)]
@@ -27,13 +27,12 @@ pub struct CapabilityEntry {
     pub uses: u64,
 }
 
-// What the tag of a slot says of it. No sound table has a slot of an unlisted kind; a walk goes on past it.
+// What a slot can be, by the number in its tag. No sound table has another number there; a walk goes on past it.
 #[derive(Clone, Copy, PartialEq, Eq, Debug)]
 pub enum Kind {
-    Empty,
-    Removed,
-    Full,
-    Unlisted,
+    Empty = 0,
+    Removed = 1,
+    Full = 2,
 }
 
 // One slot, with its entry where it holds one. A walk goes on past a removed entry's mark.

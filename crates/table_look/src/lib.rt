@@ -8,7 +8,7 @@ ghost use Rattle.table.specs.Slots.{kind_at, is_kind};
 ghost use Rattle.table.specs.Insert.{slots_for};
 ghost use Rattle.table.specs.Sound.{ends_here, coded_at, coded_test, capacity_test, agree_test, room_test, unused_test, most_test, found_test, live_slots, sound_test};
 
-use table::{CapTable, Kind, find, id_at, is_kind, slots_for};
+use table::{CapTable, Kind, find, id_at, is_kind, kind_at, slots_for};
 
 // 0 slots or a power of two from 8 to the most that there can be.
 fn is_capacity(slots: usize, most: usize) -> bool
@@ -52,7 +52,7 @@ fn one_coded(words: &[u64], i: usize) -> usize
     requires { (i < 512) × (4 * i + 3 < length words.now) }
     ensures { (result ≡ one (coded_at words.now i)) × (result ≤ 1) }
 {
-    !is_kind(words, i, Kind::Unlisted) as usize
+    (kind_at(words, i) <= Kind::Full as u64) as usize
 }
 
 // Whether the kinds are listed ones and agree with the counts. The numbers of the live slots are written one after the other: kinds

@@ -59,8 +59,8 @@ counts_fit-requires c = search laws
 pub slots_sound-requires : goal.slots_sound-requires
 slots_sound-requires c =
     elim c.if-is_capacity.branch [
-    then-is_capacity w ↦ asks _ _ _ _ c.requires c.is_capacity.ensures w.if-is_capacity.true
-    | else-is_capacity w ↦ search laws
+      | then-is_capacity w ↦ asks _ _ _ _ c.requires c.is_capacity.ensures w.if-is_capacity.true
+      | else-is_capacity w ↦ search laws
     ]
 
 pub returns-then-counts_fit : goal.returns-then-counts_fit

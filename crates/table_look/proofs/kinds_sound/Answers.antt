@@ -83,6 +83,6 @@ returns-else-n-t-clause-live_after c = search laws
 pub returns-else-n-t-clause-value : goal.returns-else-n-t-clause-value
 returns-else-n-t-clause-value c =
     elim c.if-coded-t.branch [
-    then-coded-t w ↦ ⊎_elim (λ (all, other). search (laws, all, other)) (λ other. absurd (other w.if-coded-t.true)) c.if-n-t.either
-    | else-coded-t w ↦ search laws
+      | then-coded-t w ↦ ⊎_elim (λ (all, other). search (laws, all, other)) (λ other. absurd (other w.if-coded-t.true)) c.if-n-t.either
+      | else-coded-t w ↦ search laws
     ]
