@@ -12,7 +12,6 @@ ghost use Rattle.world.specs.Sound.{links};
 
 use world::Numbers;
 use world::head::REGISTERED;
-use world::regions::registry_at;
 
 // Place r and all places under it, breadth first, to the front of `order`. Answers how many they are.
 pub fn descend(mem: &[u64], d: Numbers, r: usize, order: &mut [u16]) -> usize
@@ -22,10 +21,8 @@ pub fn descend(mem: &[u64], d: Numbers, r: usize, order: &mut [u16]) -> usize
         × (result ≤ registered_of mem.now) }
     ensures all_below { AllBelow (registered_of mem.now) (take result order.new) }
 {
-    let start = registry_at(d);
-    let end = start + 5 * d.places + 1;
     registry::descent::descend(
-        &mem[start..end],
+        &mem[d.registry()],
         d.places,
         mem[REGISTERED] as usize,
         r,
@@ -41,9 +38,7 @@ pub fn keep_unrevoked(mem: &[u64], d: Numbers, order: &mut [u16], count: usize) 
         ≡ unrevoked_of d.places (view d registry mem.now) (take count order.old) }
     ensures upper_bound { (result ≤ count) × AllBelow d.places (take result order.new) }
 {
-    let start = registry_at(d);
-    let end = start + 5 * d.places + 1;
-    registry::descent::keep_unrevoked(&mem[start..end], d.places, order, count)
+    registry::descent::keep_unrevoked(&mem[d.registry()], d.places, order, count)
 }
 
 // The ids at the places of `order`, to the front of `ids`.
@@ -52,9 +47,7 @@ pub fn ids_at(mem: &[u64], d: Numbers, order: &[u16], ids: &mut [u64])
     requires all_below { AllBelow d.places order.now }
     ensures { ids.new ≡ written (ids_at (view d registry mem.now) order.now) ids.old }
 {
-    let start = registry_at(d);
-    let end = start + 5 * d.places + 1;
-    registry::descent::ids_at(&mem[start..end], order, ids);
+    registry::descent::ids_at(&mem[d.registry()], order, ids);
 }
 
 // The places of `order` are revoked, with generation up by one.
@@ -63,7 +56,5 @@ pub fn mark(mem: &mut [u64], d: Numbers, order: &[u16])
     requires all_below { AllBelow d.places order.now }
     ensures { mem.new ≡ on_region d registry (marked d.places order.now) mem.old }
 {
-    let start = registry_at(d);
-    let end = start + 5 * d.places + 1;
-    registry::descent::mark(&mut mem[start..end], d.places, order);
+    registry::descent::mark(&mut mem[d.registry()], d.places, order);
 }

@@ -9,16 +9,13 @@ ghost use Rattle.revocation_steps.specs.Revocation.{log_of, log_step};
 
 use world::Numbers;
 use world::head::LOGGED;
-use world::regions::log_at;
 
 // Whether the log has the pair.
 pub fn has_pair(mem: &[u64], d: Numbers, pair: u64) -> bool
     requires { Ready d mem.now × (logged_of mem.now ≤ d.pairs) }
     ensures { result ≡ log_has (logged_of mem.now) (log_of d mem.now) pair }
 {
-    let start = log_at(d);
-    let end = start + d.pairs;
-    revocation::log::has_pair(&mem[start..end], mem[LOGGED] as usize, pair)
+    revocation::log::has_pair(&mem[d.log()], mem[LOGGED] as usize, pair)
 }
 
 // Of the first `count` pairs those that the log has not come to the front, in order; answers how many.
@@ -29,9 +26,7 @@ pub fn keep_absent(mem: &[u64], d: Numbers, pairs: &mut [u64], count: usize) -> 
         ≡ absent_of (logged_of mem.now) (log_of d mem.now) (take count pairs.old) }
     ensures upper_bound { result ≤ count }
 {
-    let start = log_at(d);
-    let end = start + d.pairs;
-    revocation::log::keep_absent(&mem[start..end], mem[LOGGED] as usize, pairs, count)
+    revocation::log::keep_absent(&mem[d.log()], mem[LOGGED] as usize, pairs, count)
 }
 
 // These pairs join the log.
@@ -40,8 +35,6 @@ pub fn append_pairs(mem: &mut [u64], d: Numbers, pairs: &[u64])
     ensures { mem.new ≡ log_step d pairs.now mem.old }
 {
     let n = mem[LOGGED] as usize;
-    let start = log_at(d);
-    let end = start + d.pairs;
-    revocation::log::append(&mut mem[start..end], n, pairs);
+    revocation::log::append(&mut mem[d.log()], n, pairs);
     mem[LOGGED] = (n + pairs.len()) as u64;
 }

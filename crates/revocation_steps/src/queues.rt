@@ -98,9 +98,7 @@ pub fn copy_notices(mem: &[u64], d: Numbers, q: usize, area: &mut [u64])
     requires q_in_bounds { 3 * lengths d mem.now q ≤ length area.old }
     ensures { area.new ≡ written (notices (view d (queue q) mem.now)) area.old }
 {
-    let start = queue_at(d, q);
-    let end = start + QUEUE;
-    revocation::queues::copy_notices(&mem[start..end], area);
+    revocation::queues::copy_notices(&mem[d.queue(q)], area);
 }
 
 // A notice for a pid: behind the others of its queue, or as the first of a new queue.
@@ -110,16 +108,12 @@ pub fn notify(mem: &mut [u64], d: Numbers, pid: u64, id: u64, time: u64, reason:
 {
     let q = queue_for(mem, d, pid);
     if q < d.queues {
-        let start = queue_at(d, q);
-        let end = start + QUEUE;
-        revocation::queues::push(&mut mem[start..end], id, time, reason);
+        revocation::queues::push(&mut mem[d.queue(q)], id, time, reason);
         return;
     }
     let free = free_queue(mem, d);
     if free < d.queues {
-        let start = queue_at(d, free);
-        let end = start + QUEUE;
-        revocation::queues::begin(&mut mem[start..end], pid, id, time, reason);
+        revocation::queues::begin(&mut mem[d.queue(free)], pid, id, time, reason);
     }
 }
 
@@ -203,7 +197,5 @@ pub fn free_at(mem: &mut [u64], d: Numbers, q: usize)
     requires { Fits d mem.old × (q < d.queues) }
     ensures { mem.new ≡ free_step d q mem.old }
 {
-    let start = queue_at(d, q);
-    let end = start + QUEUE;
-    revocation::queues::free(&mut mem[start..end]);
+    revocation::queues::free(&mut mem[d.queue(q)]);
 }

@@ -23,15 +23,12 @@ use table::CapabilityEntry;
 use token::{CapabilityToken, Rights};
 use world::Numbers;
 use world::head::REGISTERED;
-use world::regions::{registry_at, space_at, width};
 
 pub fn facts(mem: &[u64], d: Numbers, s: usize) -> Facts
     requires { Ready d mem.now × (s < d.spaces) }
     ensures { result ≡ facts_of (space_of d s mem.now) }
 {
-    let start = space_at(d, s);
-    let end = start + width(d);
-    let sp = &mem[start..end];
+    let sp = &mem[d.space(s)];
     Facts {
         quota: space::quota(sp),
         generation: space::generation(sp),
@@ -47,18 +44,14 @@ pub fn lookup(mem: &mut [u64], d: Numbers, s: usize, token: CapabilityToken) -> 
     ensures mem_after { mem.new ≡ lookup_step d s token.0 mem.old }
     ensures value { result ≡ looked_up (space_of d s mem.old) token.0 }
 {
-    let start = space_at(d, s);
-    let end = start + width(d);
-    space::lookup(&mut mem[start..end], token)
+    space::lookup(&mut mem[d.space(s)], token)
 }
 
 pub fn get_entry(mem: &[u64], d: Numbers, s: usize, id: u64) -> LookedUp
     requires { Ready d mem.now × (s < d.spaces) }
     ensures { result ≡ got_entry (space_of d s mem.now) id }
 {
-    let start = space_at(d, s);
-    let end = start + width(d);
-    space::get_entry(&mem[start..end], id)
+    space::get_entry(&mem[d.space(s)], id)
 }
 
 pub fn nth_entry(mem: &[u64], d: Numbers, s: usize, n: usize) -> Option<CapabilityEntry>
@@ -66,30 +59,29 @@ pub fn nth_entry(mem: &[u64], d: Numbers, s: usize, n: usize) -> Option<Capabili
     ensures { result
         ≡ nth_of (live_entries (slot_words (space_of d s mem.now)) 0 (table_of (space_of d s mem.now)).slots) n }
 {
-    let start = space_at(d, s);
-    let end = start + width(d);
-    space::nth_entry(&mem[start..end], n)
+    space::nth_entry(&mem[d.space(s)], n)
 }
 
 pub fn next_generation(mem: &mut [u64], d: Numbers, s: usize)
     requires { Ready d mem.old × (s < d.spaces) }
     ensures { mem.new ≡ next_step d s mem.old }
 {
-    let start = space_at(d, s);
-    let end = start + width(d);
-    space::next_generation(&mut mem[start..end]);
+    space::next_generation(&mut mem[d.space(s)]);
 }
 
 // The entry into the space; the answer is how many its rebuild moved.
-fn insert_entry(mem: &mut [u64], d: Numbers, s: usize, entry: CapabilityEntry) -> Result<usize, Refusal>
+fn insert_entry(
+    mem: &mut [u64],
+    d: Numbers,
+    s: usize,
+    entry: CapabilityEntry,
+) -> Result<usize, Refusal>
     requires { Ready d mem.old × (s < d.spaces) }
     ensures mem_after { mem.new ≡ on_region d (space s) (λ sp. (insert_out sp entry).words) mem.old }
     ensures answer_value { (answer_of result ≡ (insert_out (space_of d s mem.old) entry).answer)
         × (moved_of result ≡ (insert_out (space_of d s mem.old) entry).moved) }
 {
-    let start = space_at(d, s);
-    let end = start + width(d);
-    space::insert(&mut mem[start..end], entry)
+    space::insert(&mut mem[d.space(s)], entry)
 }
 
 /// A new entry. If it is accepted its holder is counted, and the value answered; the count is how many entries its rebuild moved.
@@ -125,9 +117,7 @@ fn remove_entry(mem: &mut [u64], d: Numbers, s: usize, token: CapabilityToken) -
     ensures mem_after { mem.new ≡ on_region d (space s) (λ sp. removed_token sp token.0) mem.old }
     ensures value { result ≡ looked_up (space_of d s mem.old) token.0 }
 {
-    let start = space_at(d, s);
-    let end = start + width(d);
-    space::remove(&mut mem[start..end], token)
+    space::remove(&mut mem[d.space(s)], token)
 }
 
 // The entry that leaves, if exactly the token is there, has its holder counted off.
@@ -149,9 +139,7 @@ fn ids_of(mem: &[u64], d: Numbers, s: usize, ids: &mut [u64]) -> usize
     requires { Ready d mem.now × (s < d.spaces) × (512 ≤ length ids.old) }
     ensures { (take result ids.new ≡ entry_ids (space_of d s mem.now)) × (result ≤ 512) × (result ≤ length ids.new) }
 {
-    let start = space_at(d, s);
-    let end = start + width(d);
-    space::entry_ids(&mem[start..end], ids)
+    space::entry_ids(&mem[d.space(s)], ids)
 }
 
 // How many entries of space s are strays: their ids are not registered.
@@ -163,9 +151,7 @@ pub fn strays(mem: &[u64], d: Numbers, s: usize) -> usize
 {
     let mut ids = [0u64; 512];
     let count = ids_of(mem, d, s, &mut ids);
-    let start = registry_at(d);
-    let end = start + 5 * d.places + 1;
-    registry::children::strays(&mem[start..end], mem[REGISTERED] as usize, &ids[..count])
+    registry::children::strays(&mem[d.registry()], mem[REGISTERED] as usize, &ids[..count])
 }
 
 // Every entry out of the space.
@@ -173,9 +159,7 @@ fn clear_entries(mem: &mut [u64], d: Numbers, s: usize)
     requires { Ready d mem.old × (s < d.spaces) }
     ensures { mem.new ≡ on_region d (space s) cleared mem.old }
 {
-    let start = space_at(d, s);
-    let end = start + width(d);
-    space::clear(&mut mem[start..end]);
+    space::clear(&mut mem[d.space(s)]);
 }
 
 // Every entry leaves, and has its holder counted off.
@@ -197,12 +181,10 @@ fn copy_entries(mem: &mut [u64], d: Numbers, target: usize, source: usize) -> us
     ensures value { result ≡ (copied_table (space_of d source mem.old) (space_of d target mem.old)).moved }
 {
     let mut scratch = [0u64; 2048];
-    let w = width(d);
-    let from = space_at(d, source);
-    let count = space::gather(&mem[from..from + w], &mut scratch);
-    let generation = space::generation(&mem[from..from + w]);
-    let to = space_at(d, target);
-    space::replace(&mut mem[to..to + w], &scratch, count, generation)
+    let from = &mem[d.space(source)];
+    let count = space::gather(from, &mut scratch);
+    let generation = space::generation(from);
+    space::replace(&mut mem[d.space(target)], &scratch, count, generation)
 }
 
 // The source's entries are held before the target's old ones leave.

@@ -1,5 +1,5 @@
 -- What each step leaves of the memory, and what it answers where that is not the structure's own answer.
-use Rattle.std.specs.Prelude.{◌≡◌, ℕ, suc, ◌+◌, ◌-◌, ◌%◌, ◌^◌, Bool, true, false, List, length, set, ◌==◌, nat_lt, slice_index, slice_set, Option, None, Some, is_some}
+use Rattle.std.specs.Prelude.{◌≡◌, ℕ, suc, ◌+◌, ◌-◌, ◌%◌, ◌^◌, List, length, set, ◌==◌, nat_lt, slice_index, slice_set, Option, None, Some, is_some}
 use Rattle.answers.specs.Number.{number_of}
 use Rattle.base.specs.Choose.{pick}
 use Rattle.registry.specs.Holders.{place_of, held, released, held_all, released_all}

@@ -5,7 +5,6 @@ ghost use Rattle.steps.specs.Steps.{taken_id, take_step};
 
 use world::Numbers;
 use world::head::{NEXT, RECYCLED};
-use world::regions::registry_at;
 
 #[tactic(auto, using(crate::proofs::laws::Taking::take_laws))]
 pub fn take_id(mem: &mut [u64], d: Numbers) -> Option<u64>
@@ -15,9 +14,7 @@ pub fn take_id(mem: &mut [u64], d: Numbers) -> Option<u64>
 {
     let recycled = mem[RECYCLED] as usize;
     if 0 < recycled {
-        let start = registry_at(d);
-        let end = start + 5 * d.places + 1;
-        let id = registry::ids::take_first(&mut mem[start..end], d.places, recycled);
+        let id = registry::ids::take_first(&mut mem[d.registry()], d.places, recycled);
         mem[RECYCLED] = (recycled - 1) as u64;
         return Some(id);
     }

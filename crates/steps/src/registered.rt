@@ -18,9 +18,7 @@ pub fn place_of(mem: &[u64], d: Numbers, id: u64) -> usize
     requires { Ready d mem.now }
     ensures { (result ≡ place_in d mem.now id) × (result ≤ registered_of mem.now) }
 {
-    let start = registry_at(d);
-    let end = start + 5 * d.places + 1;
-    registry::holders::place_of(&mem[start..end], mem[REGISTERED] as usize, id)
+    registry::holders::place_of(&mem[d.registry()], mem[REGISTERED] as usize, id)
 }
 
 // Word i of the registry.
@@ -65,9 +63,7 @@ pub fn register(mem: &mut [u64], d: Numbers, id: u64, object: u64, link: u64)
     ensures { mem.new ≡ register_step d id object link mem.old }
 {
     let n = mem[REGISTERED] as usize;
-    let start = registry_at(d);
-    let end = start + 5 * d.places + 1;
-    registry::registering::register(&mut mem[start..end], d.places, n, id, object, link);
+    registry::registering::register(&mut mem[d.registry()], d.places, n, id, object, link);
     mem[REGISTERED] = (n + 1) as u64;
 }
 
@@ -75,9 +71,7 @@ pub fn give_list(mem: &mut [u64], d: Numbers, p: usize)
     requires { Ready d mem.old × (p < d.places) }
     ensures { mem.new ≡ list_step d p mem.old }
 {
-    let start = registry_at(d);
-    let end = start + 5 * d.places + 1;
-    registry::registering::give_list(&mut mem[start..end], d.places, p);
+    registry::registering::give_list(&mut mem[d.registry()], d.places, p);
 }
 
 pub fn unregister(mem: &mut [u64], d: Numbers, k: usize)
@@ -85,9 +79,7 @@ pub fn unregister(mem: &mut [u64], d: Numbers, k: usize)
     ensures { mem.new ≡ unregister_step d k mem.old }
 {
     let n = mem[REGISTERED] as usize;
-    let start = registry_at(d);
-    let end = start + 5 * d.places + 1;
-    registry::registering::unregister(&mut mem[start..end], d.places, n, k);
+    registry::registering::unregister(&mut mem[d.registry()], d.places, n, k);
     mem[REGISTERED] = (n - 1) as u64;
 }
 
@@ -96,9 +88,7 @@ pub fn recycle(mem: &mut [u64], d: Numbers, id: u64)
     ensures { mem.new ≡ recycle_step d id mem.old }
 {
     let m = mem[RECYCLED] as usize;
-    let start = registry_at(d);
-    let end = start + 5 * d.places + 1;
-    registry::ids::recycle(&mut mem[start..end], d.places, m, id);
+    registry::ids::recycle(&mut mem[d.registry()], d.places, m, id);
     mem[RECYCLED] = (m + 1) as u64;
 }
 
@@ -108,9 +98,7 @@ pub fn collect(mem: &mut [u64], d: Numbers, p: usize)
     ensures { mem.new ≡ collect_step d p mem.old }
 {
     let n = mem[REGISTERED] as usize;
-    let start = registry_at(d);
-    let end = start + 5 * d.places + 1;
-    let left = registry::registering::collect(&mut mem[start..end], d.places, p, n);
+    let left = registry::registering::collect(&mut mem[d.registry()], d.places, p, n);
     mem[REGISTERED] = left as u64;
 }
 
@@ -118,9 +106,7 @@ pub fn child_count(mem: &[u64], d: Numbers, p: usize) -> usize
     requires { Ready d mem.now × (p ≤ d.places) }
     ensures { result ≡ children_of d mem.now p }
 {
-    let start = registry_at(d);
-    let end = start + 5 * d.places + 1;
-    registry::children::child_count(&mem[start..end], d.places, mem[REGISTERED] as usize, p)
+    registry::children::child_count(&mem[d.registry()], d.places, mem[REGISTERED] as usize, p)
 }
 
 // The ids of the children of place p, in list order, to the front of `area`.
@@ -129,10 +115,8 @@ pub fn list_children(mem: &[u64], d: Numbers, p: usize, area: &mut [u64])
     ensures { area.new
         ≡ written (child_ids d.places p (registered_of mem.now) (view d registry mem.now)) area.old }
 {
-    let start = registry_at(d);
-    let end = start + 5 * d.places + 1;
     registry::children::list_children(
-        &mem[start..end],
+        &mem[d.registry()],
         d.places,
         mem[REGISTERED] as usize,
         p,
@@ -145,9 +129,7 @@ pub fn parents(mem: &[u64], d: Numbers) -> usize
     requires { Ready d mem.now }
     ensures { result ≡ derivation.parents d.places (registered_of mem.now) (view d registry mem.now) }
 {
-    let start = registry_at(d);
-    let end = start + 5 * d.places + 1;
-    registry::children::parents(&mem[start..end], d.places, mem[REGISTERED] as usize)
+    registry::children::parents(&mem[d.registry()], d.places, mem[REGISTERED] as usize)
 }
 
 // How many children stand in lists.
@@ -155,9 +137,7 @@ pub fn edges(mem: &[u64], d: Numbers) -> usize
     requires { Ready d mem.now }
     ensures { result ≡ derivation.edges d.places (registered_of mem.now) (view d registry mem.now) }
 {
-    let start = registry_at(d);
-    let end = start + 5 * d.places + 1;
-    registry::children::edges(&mem[start..end], d.places, mem[REGISTERED] as usize)
+    registry::children::edges(&mem[d.registry()], d.places, mem[REGISTERED] as usize)
 }
 
 // Word i of the head, the epoch or a statistic, counts k more.

@@ -1,5 +1,5 @@
 -- No id is left exactly where none is recycled and next is 2^48: document 01's case of 9 and 12.
-use Rattle.std.proofs.Common.{◌≡◌, ℕ, ◌^◌, ◌≤◌, ◌↔◌, List, sym, refl, arith, Option, Some, None}
+use Rattle.std.proofs.Common.{◌≡◌, ℕ, ◌^◌, ◌≤◌, ◌↔◌, List, sym, refl, arith, Some, None}
 use Rattle.std.proofs.Math.Decide.{dec_lt}
 use Rattle.std.proofs.Math.Logic.{by_cases}
 use Rattle.world.specs.Numbers.{next_of, recycled_of}

@@ -1,5 +1,5 @@
 -- Taking an id keeps a sound memory, and the id taken is free: in 1..2^48-1, issued, not registered, and recycled no more.
-use Rattle.std.proofs.Common.{◌≡◌, ℕ, ◌+◌, ◌-◌, ◌*◌, ◌^◌, ◌<◌, ◌≤◌, ◌≢◌, List, length, set, sym, ap, ◌∙◌, subst, arith, Option, Some, None}
+use Rattle.std.proofs.Common.{◌≡◌, ℕ, ◌+◌, ◌-◌, ◌*◌, ◌^◌, ◌<◌, ◌≤◌, ◌≢◌, List, length, set, sym, ap, ◌∙◌, subst, arith, Some}
 use Rattle.registry.specs.Ids.{first_taken}
 use Rattle.registry.specs.IdsLaws.{length_taken, taken_keeps, taken_unregistered, taken_smallest}
 use Rattle.registry.specs.Words.{id_at, recycled_at}

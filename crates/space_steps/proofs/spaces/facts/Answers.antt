@@ -1,6 +1,6 @@
 -- The space is lent to its readers.
 use Rattle.steps.specs.Steps.{facts_of}
-use Rattle.steps.proofs.Lending.{lent_space, lends}
+use Rattle.steps.proofs.Lending.{lent, lends}
 use Rattle.space_steps.proofs.spaces.facts.Goals as goal
 
 pub quota-requires : goal.quota-requires
@@ -31,5 +31,5 @@ returns c =
       c.hits.ensures,
       c.generation.ensures,
       c.quota.ensures,
-      lent_space _ _ _ _ _ c.space_at-start.ensures c.width.ensures,
+      lent _ _ _ _ _ c.space.ensures,
     )

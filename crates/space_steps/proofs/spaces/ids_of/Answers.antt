@@ -5,4 +5,4 @@ use Rattle.space_steps.proofs.spaces.ids_of.Goals as goal
 pub entry_ids-requires : goal.entry_ids-requires
 entry_ids-requires c =
     let (ready, there, room) = c.requires in
-    (lent_in_range _ _ _ _ _ c.space_at-start.ensures c.width.ensures ready there, room)
+    (lent_in_range _ _ _ _ _ c.space.ensures ready there, room)

@@ -1,7 +1,7 @@
 -- The space is lent to `space::insert`.
 use Rattle.std.proofs.Common.{ap, ◌∙◌}
 use Rattle.space.specs.Change.{InsertOut, insert_out}
-use Rattle.steps.proofs.Lending.{lent_space, lends}
+use Rattle.steps.proofs.Lending.{lent, lends}
 use Rattle.space_steps.proofs.spaces.insert_entry.Goals as goal
 
 pub insert-requires : goal.insert-requires
@@ -9,11 +9,9 @@ insert-requires c = search lends
 
 pub returns-clause-answer_value : goal.returns-clause-answer_value
 returns-clause-answer_value c =
-    let at = c.space_at-start.ensures in
-    let wide = c.width.ensures in
     let args = c.args in
     let came = c.insert.ensures in
-    let here = lent_space _ _ _ _ _ at wide in (
+    let here = lent _ _ _ _ _ c.space.ensures in (
       ap (λ (o : InsertOut). o.answer) came ∙ ap (λ sp. (insert_out sp args.entry).answer) here,
       ap (λ (o : InsertOut). o.moved) came ∙ ap (λ sp. (insert_out sp args.entry).moved) here,
     )

@@ -1,6 +1,6 @@
 -- The space is lent to `space::lookup`.
 use Rattle.steps.specs.Steps.{lookup_step}
-use Rattle.steps.proofs.Lending.{lent_space, lends}
+use Rattle.steps.proofs.Lending.{lent, lends}
 use Rattle.space_steps.proofs.spaces.lookup.Goals as goal
 
 pub lookup-requires : goal.lookup-requires
@@ -10,4 +10,4 @@ pub returns-clause-mem_after : goal.returns-clause-mem_after
 unfolding lookup_step
 returns-clause-mem_after c =
     let mem = c.args.mem.now in
-    let here = lent_space _ _ mem _ _ c.space_at-start.ensures c.width.ensures in search lends
+    let here = lent _ _ mem _ _ c.space.ensures in search lends

@@ -1,5 +1,5 @@
 -- The space is lent to `space::nth_entry`.
-use Rattle.steps.proofs.Lending.{lent_space, lends}
+use Rattle.steps.proofs.Lending.{lent, lends}
 use Rattle.space_steps.proofs.spaces.nth_entry.Goals as goal
 
 pub nth_entry-requires : goal.nth_entry-requires
@@ -7,4 +7,4 @@ nth_entry-requires c = search lends
 
 pub returns : goal.returns
 returns c =
-    rw (lent_space _ _ _ _ _ c.space_at-start.ensures c.width.ensures) at c.nth_entry.ensures
+    rw (lent _ _ _ _ _ c.space.ensures) at c.nth_entry.ensures
