@@ -1,5 +1,6 @@
 -- The children that are offered, in the words of the loop that offers them: one place, then those after it.
-use Rattle.std.proofs.Common.{Bool, true, false, List, ◌≡◌, refl, sym, ap, ap₂, ◌∙◌, ℕ, zero, suc, ◌+◌, ◌-◌, ◌≤◌, ◌<◌, arith}
+use Rattle.std.proofs.Common.{Option, Some, None, Bool, true, false, List, ◌≡◌, refl, sym, ap, ap₂, ◌∙◌, ℕ, zero, suc, ◌+◌, ◌-◌, ◌≤◌, ◌<◌, arith}
+use Rattle.std.specs.Prelude.{is_some}
 use Rattle.base.specs.Choose.{pick}
 use Rattle.manager_calls.specs.Tokens.{token_of}
 use Rattle.space.specs.Lookup.{looked_up}
@@ -15,36 +16,32 @@ use Rattle.world.specs.Sound.{ids}
 use Rattle.world.specs.declared.Numbers.{Numbers}
 use Rattle.delegation_calls.specs.Delegation.{Offered, held_with, open_child, offered_from, with_room, offering}
 use Rattle.delegation_calls.specs.Offer.{offer_of}
-use Rattle.delegation_calls.specs.declared.offer.Offer.{Offer}
-use Rattle.delegation_calls.specs.declared.offer.Offer.TheVariants.{Held, Absent}
 
 -- What the code sees says whether there is one, and which.
-offer_held : (o : Offered) (token : CapabilityToken) → offer_of o ≡ Held token → o.held ≡ true
+offer_some : (o : Offered) → is_some (offer_of o) ≡ o.held
 unfolding offer_of
-offer_held o token e = go o.held refl e
+offer_some o = go o.held
   where
-    go : (b : Bool) → o.held ≡ b → pick b (Held (record { 0 = o.token })) Absent ≡ Held token → o.held ≡ true
-    go true is e = is
-    go false is e = absurd (let z : ◌≡◌ {A = ℕ} 0 1 = cc in omega arith)
+    go : (b : Bool) → is_some (pick {A = Option CapabilityToken} b (Some (record { 0 = o.token })) None) ≡ b
+    go true = refl
+    go false = refl
 
-offer_token : (o : Offered) (token : CapabilityToken) → offer_of o ≡ Held token → o.token ≡ token.0
+offer_held : (o : Offered) (token : CapabilityToken) → offer_of o ≡ Some token → o.held ≡ true
+offer_held o token e = sym (offer_some o) ∙ ap is_some e
+
+offer_absent : (o : Offered) → offer_of o ≡ None → o.held ≡ false
+offer_absent o e = sym (offer_some o) ∙ ap is_some e
+
+offer_token : (o : Offered) (token : CapabilityToken) → offer_of o ≡ Some token → o.token ≡ token.0
 unfolding offer_of
 offer_token o token e = go o.held e
   where
-    go : (b : Bool) → pick b (Held (record { 0 = o.token })) Absent ≡ Held token → o.token ≡ token.0
+    go : (b : Bool) → pick {A = Option CapabilityToken} b (Some (record { 0 = o.token })) None ≡ Some token → o.token ≡ token.0
     go true e = let same : record { 0 = o.token } ≡ token = cc in ap (λ (t : CapabilityToken). t.0) same
     go false e = absurd (let z : ◌≡◌ {A = ℕ} 0 1 = cc in omega arith)
 
-offer_absent : (o : Offered) → offer_of o ≡ Absent → o.held ≡ false
-unfolding offer_of
-offer_absent o e = go o.held refl e
-  where
-    go : (b : Bool) → o.held ≡ b → pick b (Held (record { 0 = o.token })) Absent ≡ Absent → o.held ≡ false
-    go true is e = absurd (let z : ◌≡◌ {A = ℕ} 0 1 = cc in omega arith)
-    go false is e = is
-
 -- So a delegation ends there, or goes on to a new child.
-module _ (d : Numbers) (target token rights : ℕ) (o : Offered) (seen : Offer) (is : seen ≡ offer_of o) where
+module _ (d : Numbers) (target token rights : ℕ) (o : Offered) (seen : Option CapabilityToken) (is : seen ≡ offer_of o) where
   decided :
       (b : Bool) → o.held ≡ b
       → offering d target token rights o
@@ -53,22 +50,14 @@ module _ (d : Numbers) (target token rights : ℕ) (o : Offered) (seen : Offer) 
       ap (λ b. pick b (record { reply = done o.token; memory = o.memory }) (with_room d target token rights o.memory)) e
 
   pub offering_held :
-      (child : CapabilityToken) → seen ≡ Held child
+      (child : CapabilityToken) → seen ≡ Some child
       → offering d target token rights o ≡ record { reply = done child.0; memory = o.memory }
   offering_held child e =
       decided true (offer_held o child (sym is ∙ e))
       ∙ ap (λ t. record { reply = done t; memory = o.memory }) (offer_token o child (sym is ∙ e))
 
-  pub offering_absent : seen ≡ Absent → offering d target token rights o ≡ with_room d target token rights o.memory
+  pub offering_absent : seen ≡ None → offering d target token rights o ≡ with_room d target token rights o.memory
   offering_absent e = decided false (offer_absent o (sym is ∙ e))
-
--- It begins with all n places, under the place p that was found for the token's id.
-pub all_left :
-    (d : Numbers) (target p cap_type rights n id token : ℕ) (mem : List ℕ) → p ≡ place_in d mem id → id ≡ id_of token
-    → offered_from d target p cap_type rights 0 (n - 0) mem ≡ offered_from d target (place_in d mem (id_of token)) cap_type rights 0 n mem
-all_left d target p cap_type rights n id token mem is_place is_id =
-    let all : n - 0 ≡ n = omega arith in
-    ap₂ (λ p m. offered_from d target p cap_type rights 0 m mem) (is_place ∙ ap (place_in d mem) is_id) all
 
 module _ (d : Numbers) (target p cap_type rights : ℕ) where
   abbrev from : ℕ → ℕ → List ℕ → Offered
@@ -89,7 +78,7 @@ module _ (d : Numbers) (target p cap_type rights : ℕ) where
       unfolding offered_from
       shut_place shut = rw (sym is_open ∙ shut)
 
-      pub shut_offers : seen ≡ false → Absent ≡ offer_of (offered_from d target p cap_type rights k 1 mem)
+      pub shut_offers : seen ≡ false → None ≡ offer_of (offered_from d target p cap_type rights k 1 mem)
       unfolding offer_of
       shut_offers shut = sym (ap offer_of (shut_place shut))
 
@@ -114,11 +103,11 @@ module _ (d : Numbers) (target p cap_type rights : ℕ) where
           unfolding offered_from
           open_place = rw (sym is_open ∙ opened, ← tells_there, is_token)
 
-          pub held_offers : told ≡ true → Held child ≡ offer_of (offered_from d target p cap_type rights k 1 mem)
+          pub held_offers : told ≡ true → Some child ≡ offer_of (offered_from d target p cap_type rights k 1 mem)
           unfolding offer_of
           held_offers e = sym (ap offer_of (rw e at open_place))
 
-          pub absent_offers : told ≡ false → Absent ≡ offer_of (offered_from d target p cap_type rights k 1 mem)
+          pub absent_offers : told ≡ false → None ≡ offer_of (offered_from d target p cap_type rights k 1 mem)
           unfolding offer_of
           absent_offers e = sym (ap offer_of (rw e at open_place))
 
@@ -163,7 +152,7 @@ module _ (d : Numbers) (target p cap_type rights : ℕ) where
     unfolding offered_from
     none_left over = let nothing : n - k ≡ 0 = omega arith in sym left ∙ ap (λ m. from k m mem) nothing
 
-    module _ (more : k < n) (seen : Offer) (is : seen ≡ offer_of (from k 1 mem)) where
+    module _ (more : k < n) (seen : Option CapabilityToken) (is : seen ≡ offer_of (from k 1 mem)) where
       abbrev here : Offered
       here = from k 1 mem
 
@@ -175,11 +164,11 @@ module _ (d : Numbers) (target p cap_type rights : ℕ) where
           let one_more : n - k ≡ suc (n - (k + 1)) = omega arith in
           sym left ∙ ap (λ m. from k m mem) one_more ∙ one_by_one k mem (n - (k + 1))
 
-      pub found : (token : CapabilityToken) → seen ≡ Held token → answer ≡ from k 1 mem
-      found token e = turn ∙ ap (λ b. pick b here later) (offer_held here token (sym is ∙ e))
+      pub found : is_some seen ≡ true → answer ≡ from k 1 mem
+      found e = turn ∙ ap (λ b. pick b here later) (sym (offer_some here) ∙ ap is_some (sym is) ∙ e)
 
-      pub passed : seen ≡ Absent → from (k + 1) (n - (k + 1)) (from k 1 mem).memory ≡ answer
-      passed e = sym (turn ∙ ap (λ b. pick b here later) (offer_absent here (sym is ∙ e)))
+      pub passed : is_some seen ≡ false → from (k + 1) (n - (k + 1)) (from k 1 mem).memory ≡ answer
+      passed e = sym (turn ∙ ap (λ b. pick b here later) (sym (offer_some here) ∙ ap is_some (sym is) ∙ e))
 
   -- ---- all places: lookups are done and nothing else, and it ends with no child or with one that is held
 

@@ -17,6 +17,7 @@ use token::{CapabilityToken, Rights};
 use world::Numbers;
 
 // A child that the target holds already is returned, not counted as delegated.
+#[tactic(auto, using(crate::proofs::Offering::offering_held, crate::proofs::Offering::offering_absent, crate::proofs::Offering::ready_offered))]
 fn offer_or_derive(
     mem: &mut [u64],
     d: Numbers,
@@ -35,6 +36,7 @@ fn offer_or_derive(
 }
 
 // The token is looked up in the source space, and its entry must have GRANT.
+#[tactic(auto, using(steps::proofs::laws::ReadyKept::ready_lookup), unfolding(base::specs::Choose::when))]
 fn delegate_from(
     mem: &mut [u64],
     d: Numbers,

@@ -16,6 +16,7 @@ use world::Numbers;
 use world::head::{DELEGATED, REGISTERED};
 
 // The child is registered with its parent's object, recorded, inserted.
+#[tactic(auto, using(steps::proofs::laws::ReadyKept::list_stays, manager_calls::proofs::Admitting::room_stays, manager_calls::proofs::Admitting::room_registered))]
 fn derive_with(
     mem: &mut [u64],
     d: Numbers,
@@ -41,6 +42,7 @@ fn derive_with(
 }
 
 // The id was taken: the parent is looked at.
+#[tactic(auto, unfolding(base::specs::Choose::when))]
 fn derive_taken(
     mem: &mut [u64],
     d: Numbers,
@@ -67,6 +69,7 @@ fn derive_taken(
 }
 
 // An id is taken for the child.
+#[tactic(auto, using(steps::proofs::laws::ReadyKept::ready_take, steps::proofs::laws::ReadyKept::take_room), unfolding(crate::specs::Delegation::with_id))]
 fn derive(
     mem: &mut [u64],
     d: Numbers,
@@ -81,7 +84,8 @@ fn derive(
     derive_taken(mem, d, target, token, rights, id)
 }
 
-// With 1,024 children the collection, then 10 exactly if 1,024 remain.
+/// With 1,024 children the collection, then 10 exactly if 1,024 remain.
+#[tactic(auto, using(steps::proofs::laws::ReadyKept::ready_collect), unfolding(crate::specs::Delegation::with_room, base::specs::Choose::when))]
 pub fn with_room(
     mem: &mut [u64],
     d: Numbers,
