@@ -1,4 +1,4 @@
-// The notification queues in the world's memory.
+//! The notification queues in the world's memory.
 ghost use Rattle.std.specs.Prelude.{◌≡◌, not, ◌+◌, ◌*◌, ◌<◌, ◌≤◌, eqb, ltb, length, get_or, drop};
 ghost use Rattle.base.specs.Choose.{both};
 ghost use Rattle.base.specs.Written.{written};
@@ -18,10 +18,7 @@ fn is_queue_of(mem: &[u64], at: usize, pid: u64) -> bool
     requires { at + 771 ≤ length mem.now }
     ensures { result ≡ both (ltb 0 (get_or mem.now (at + 2) 0)) (eqb (get_or mem.now at 0) pid) }
 {
-    if 0 < mem[at + LENGTH] {
-        return mem[at] == pid;
-    }
-    false
+    0 < mem[at + LENGTH] && mem[at] == pid
 }
 
 // Whether it is free.
@@ -38,15 +35,13 @@ pub fn queue_for(mem: &[u64], d: Numbers, pid: u64) -> usize
     ensures { (result ≡ queue_for d mem.now pid) × (result ≤ d.queues) }
 {
     let mut at = queue_at(d, 0);
-    let mut q = 0;
-    while q < d.queues {
+    for q in 0..d.queues {
         if is_queue_of(mem, at, pid) {
             return q;
         }
         at += QUEUE;
-        q += 1;
     }
-    q
+    d.queues
 }
 
 // The first free place, or how many places there are.
@@ -55,15 +50,13 @@ pub fn free_queue(mem: &[u64], d: Numbers) -> usize
     ensures { (result ≡ free_queue d mem.now) × (result ≤ d.queues) }
 {
     let mut at = queue_at(d, 0);
-    let mut q = 0;
-    while q < d.queues {
+    for q in 0..d.queues {
         if is_free(mem, at) {
             return q;
         }
         at += QUEUE;
-        q += 1;
     }
-    q
+    d.queues
 }
 
 // How many places are free.
@@ -73,13 +66,9 @@ pub fn free_queues(mem: &[u64], d: Numbers) -> usize
 {
     let mut at = queue_at(d, 0);
     let mut free = 0;
-    let mut q = 0;
-    while q < d.queues {
-        if is_free(mem, at) {
-            free += 1;
-        }
+    for q in 0..d.queues {
+        free += is_free(mem, at) as usize;
         at += QUEUE;
-        q += 1;
     }
     free
 }
@@ -122,14 +111,7 @@ fn is_in(listed: &[u64], j: usize, pid: u64) -> bool
     requires { j ≤ length listed.now }
     ensures { result ≡ is_in pid (drop j listed.now) }
 {
-    let mut i = j;
-    while i < listed.len() {
-        if pid == listed[i] {
-            return true;
-        }
-        i += 1;
-    }
-    false
+    listed[j..].contains(&pid)
 }
 
 // Whether the j-th pid has no queue and is not listed again behind it.
@@ -140,14 +122,7 @@ fn is_new(mem: &[u64], d: Numbers, listed: &[u64], j: usize) -> bool
         (not (is_in (get_or listed.now j 0) (drop (j + 1) listed.now))) }
 {
     let pid = listed[j];
-    let q = queue_for(mem, d, pid);
-    if q < d.queues {
-        return false;
-    }
-    if is_in(listed, j + 1, pid) {
-        return false;
-    }
-    true
+    d.queues <= queue_for(mem, d, pid) && !is_in(listed, j + 1, pid)
 }
 
 // How many of the listed pids, a repeat once, have no queue.
@@ -156,12 +131,8 @@ pub fn new_queues(mem: &[u64], d: Numbers, listed: &[u64]) -> usize
     ensures { (result ≡ new_queues d mem.now listed.now) × (result ≤ length listed.now) }
 {
     let mut count = 0;
-    let mut j = 0;
-    while j < listed.len() {
-        if is_new(mem, d, listed, j) {
-            count += 1;
-        }
-        j += 1;
+    for j in 0..listed.len() {
+        count += is_new(mem, d, listed, j) as usize;
     }
     count
 }
@@ -172,11 +143,9 @@ fn notify_pids(mem: &mut [u64], d: Numbers, listed: &[u64], id: u64, time: u64)
     ensures mem_after { mem.new ≡ notify_pids d listed.now id time mem.old }
     ensures queues_ready { QueuesReady d mem.new }
 {
-    let reason = RevocationReason::ParentRevoked.number() as u64;
-    let mut j = 0;
-    while j < listed.len() {
-        notify(mem, d, listed[j], id, time, reason);
-        j += 1;
+    let reason = u64::from(u8::from(RevocationReason::ParentRevoked));
+    for pid in listed {
+        notify(mem, d, *pid, id, time, reason);
     }
 }
 
@@ -185,10 +154,8 @@ pub fn notify_all(mem: &mut [u64], d: Numbers, listed: &[u64], ids: &[u64], time
     requires { QueuesReady d mem.old }
     ensures { mem.new ≡ notify_all d listed.now ids.now time mem.old }
 {
-    let mut j = 0;
-    while j < ids.len() {
-        notify_pids(mem, d, listed, ids[j], time);
-        j += 1;
+    for id in ids {
+        notify_pids(mem, d, listed, *id, time);
     }
 }
 

@@ -8,8 +8,5 @@ use Rattle.revocation_steps.proofs.queues.free_queue.Given as goal
 
 abbrev pub invariant-loop-q : goal.invariant-loop-q
 invariant-loop-q l =
-    (l.at ≤ length l.mem) × (l.q ≤ l.d.queues) × Along l.d l.q l.at
-    × (free_queue l.d l.mem ≡ first_from (λ q. eqb (lengths l.d l.mem q) 0) (l.d.queues - l.q) l.q)
-
-abbrev pub decreases-loop-q : goal.decreases-loop-q
-decreases-loop-q l = l.d.queues - l.q
+    (l.at ≤ length l.mem) × Along l.fn.d l.q l.at
+    × (free_queue l.fn.d l.mem ≡ first_from (λ q. eqb (lengths l.fn.d l.mem q) 0) (l.fn.d.queues - l.q) l.q)

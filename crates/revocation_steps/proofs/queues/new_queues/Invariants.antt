@@ -1,5 +1,5 @@
 -- Those before j are counted; with those from j on they are the answer.
-use Rattle.std.proofs.Common.{Bool, true, false, not, List, ◌≡◌, sym, ◌∙◌, ℕ, ◌+◌, ◌-◌, ◌<◌, ◌≤◌, zero-add, arith, ltb, length, get_or, drop, drop_of_length-le}
+use Rattle.std.proofs.Common.{Bool, not, List, ◌≡◌, ℕ, ◌+◌, ◌<◌, ◌≤◌, zero-add, arith, ltb, length, get_or, drop, drop_of_length-le}
 use Rattle.base.specs.Below.{one}
 use Rattle.base.specs.Choose.{both}
 use Rattle.base.specs.Rest.{drop_next}
@@ -29,19 +29,8 @@ module _ (d : Numbers) (mem listed : List ℕ) where
       unfolding new_queues
       next = rw (drop_next listed j l)
 
-      module _ (b : Bool) (e : b ≡ is_new) where
-        pub counts : b ≡ true → Counting (count + 1) (j + 1)
-        counts yes' =
-            let more : new_queues d mem (drop j listed) ≡ 1 + new_queues d mem (drop (j + 1) listed) = rw (sym e ∙ yes') at next in
-            record { left = omega (arith, more, counting.left) }
-
-        pub passes : b ≡ false → Counting count (j + 1)
-        passes no' =
-            let same : new_queues d mem (drop j listed) ≡ 0 + new_queues d mem (drop (j + 1) listed) = rw (sym e ∙ no') at next in
-            record { left = omega (arith, same, counting.left) }
+      pub counts : (b : Bool) (v : ℕ) → b ≡ is_new → v ≡ one b → Counting (count + v) (j + 1)
+      counts b v e h = rw (h, e) (record { left = omega (arith, next, counting.left) })
 
 abbrev pub invariant-loop-j : goal.invariant-loop-j
-invariant-loop-j l = (l.j ≤ length l.listed) × (l.count ≤ l.j) × Counting l.d l.mem l.listed l.count l.j
-
-abbrev pub decreases-loop-j : goal.decreases-loop-j
-decreases-loop-j l = length l.listed - l.j
+invariant-loop-j l = (l.count ≤ l.j) × Counting l.d l.mem l.listed l.count l.j

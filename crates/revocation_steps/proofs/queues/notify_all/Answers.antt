@@ -4,8 +4,8 @@ use Rattle.revocation_steps.proofs.queues.notify_all.Goals as goal
 
 ruleset laws = (rules, starts, still_ready, ends, goes)
 
-pub loop-j-preserved : goal.loop-j-preserved
-loop-j-preserved c = search laws
+pub loop-id-preserved : goal.loop-id-preserved
+loop-id-preserved c = search laws
 
 pub returns : goal.returns
 returns c = search laws

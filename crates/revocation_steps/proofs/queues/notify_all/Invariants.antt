@@ -1,5 +1,5 @@
 -- The ids before j are queued; with those from j on the memory becomes the answer.
-use Rattle.std.proofs.Common.{List, ◌≡◌, refl, ℕ, ◌+◌, ◌-◌, ◌<◌, ◌≤◌, length, get_or, drop, drop_of_length-le}
+use Rattle.std.proofs.Common.{List, ◌≡◌, refl, ℕ, ◌+◌, ◌<◌, ◌≤◌, length, get_or, drop, drop_of_length-le}
 use Rattle.base.specs.Rest.{drop_next}
 use Rattle.world.specs.declared.Numbers.{Numbers}
 use Rattle.steps.specs.Ready.{QueuesReady}
@@ -27,9 +27,6 @@ module _ (d : Numbers) (listed ids : List ℕ) (time : ℕ) (mem₀ : List ℕ) 
     unfolding notify_all
     goes l after e ready = record { ready = ready; left = rw e (rw (drop_next ids j l) at notifying.left) }
 
-abbrev pub invariant-loop-j : goal.invariant-loop-j
-invariant-loop-j l =
-    (l.j ≤ length l.ids) × (length l.mem ≡ length l.initial.mem) × Notifying l.d l.listed l.ids l.time l.initial.mem l.mem l.j
-
-abbrev pub decreases-loop-j : goal.decreases-loop-j
-decreases-loop-j l = length l.ids - l.j
+abbrev pub invariant-loop-id : goal.invariant-loop-id
+invariant-loop-id l =
+    Notifying l.d l.listed l.ids l.time l.initial.mem l.mem l.id-index

@@ -5,8 +5,8 @@ use Rattle.revocation_steps.proofs.queues.notify_pids.Goals as goal
 
 ruleset laws = (rules, starts, still_ready, ends, goes)
 
-pub loop-j-preserved : goal.loop-j-preserved
-loop-j-preserved c = search (rules, starts, still_ready, ends, goes, ready_notified)
+pub loop-pid-preserved : goal.loop-pid-preserved
+loop-pid-preserved c = search (rules, starts, still_ready, ends, goes, ready_notified)
 
 pub returns-clause-mem_after : goal.returns-clause-mem_after
 returns-clause-mem_after c = search laws

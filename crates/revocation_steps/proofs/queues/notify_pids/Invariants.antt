@@ -1,5 +1,5 @@
 -- The pids before j have their notice; with those from j on the memory becomes the answer.
-use Rattle.std.proofs.Common.{List, ◌≡◌, refl, ℕ, ◌+◌, ◌-◌, ◌<◌, ◌≤◌, arith, length, get_or, drop, drop_of_length-le}
+use Rattle.std.proofs.Common.{List, ◌≡◌, refl, ℕ, ◌+◌, ◌<◌, ◌≤◌, arith, length, get_or, drop, drop_of_length-le}
 use Rattle.base.specs.Rest.{drop_next}
 use Rattle.revocation.specs.Reason.{number_of}
 use Rattle.revocation.specs.declared.RevocationReason.TheVariants.{ParentRevoked}
@@ -35,9 +35,6 @@ module _ (d : Numbers) (listed : List ℕ) (id time : ℕ) (mem₀ : List ℕ) w
           left = rw (e, parent) (rw (drop_next listed j l) at notifying.left);
         }
 
-abbrev pub invariant-loop-j : goal.invariant-loop-j
-invariant-loop-j l =
-    (l.j ≤ length l.listed) × (length l.mem ≡ length l.initial.mem) × Notifying l.d l.listed l.id l.time l.initial.mem l.mem l.j
-
-abbrev pub decreases-loop-j : goal.decreases-loop-j
-decreases-loop-j l = length l.listed - l.j
+abbrev pub invariant-loop-pid : goal.invariant-loop-pid
+invariant-loop-pid l =
+    Notifying l.d l.listed l.id l.time l.initial.mem l.mem l.pid-index

@@ -9,9 +9,6 @@ use Rattle.revocation_steps.proofs.queues.queue_for.Given as goal
 
 abbrev pub invariant-loop-q : goal.invariant-loop-q
 invariant-loop-q l =
-    (l.at ≤ length l.mem) × (l.q ≤ l.d.queues) × Along l.d l.q l.at
-    × (queue_for l.d l.mem l.pid ≡ first_from (λ q. both (ltb 0 (lengths l.d l.mem q)) (eqb (pids l.d l.mem q) l.pid)) (l.d.queues - l.q)
+    (l.at ≤ length l.mem) × Along l.fn.d l.q l.at
+    × (queue_for l.fn.d l.mem l.pid ≡ first_from (λ q. both (ltb 0 (lengths l.fn.d l.mem q)) (eqb (pids l.fn.d l.mem q) l.pid)) (l.fn.d.queues - l.q)
     l.q)
-
-abbrev pub decreases-loop-q : goal.decreases-loop-q
-decreases-loop-q l = l.d.queues - l.q
