@@ -37,6 +37,7 @@ impl From<Result<ManagerStats, Refusal>> for ManagerAnswer {
 
     ghost from_gives = { ManagerAnswers };
 
+    #[tactic(auto, unfolding(crate::specs::Manager::manager_answer))]
     fn from(outcome: Result<ManagerStats, Refusal>) -> Self {
         match outcome {
             Ok(stats) => ManagerAnswer {
@@ -62,6 +63,7 @@ impl From<Result<Tree, Refusal>> for TreeAnswer {
 
     ghost from_gives = { TreeAnswers };
 
+    #[tactic(auto, unfolding(crate::specs::Manager::tree_answer))]
     fn from(outcome: Result<Tree, Refusal>) -> Self {
         match outcome {
             Ok(tree) => TreeAnswer {

@@ -27,6 +27,7 @@ impl From<Result<Queues, Refusal>> for QueuesAnswer {
 
     ghost from_gives = { QueuesAnswers };
 
+    #[tactic(auto, unfolding(crate::specs::Revocation::queues_answer))]
     fn from(outcome: Result<Queues, Refusal>) -> Self {
         match outcome {
             Ok(queues) => QueuesAnswer {

@@ -17,6 +17,7 @@ impl From<Result<Done, Refused>> for CallAnswer {
 
     ghost from_gives = { Answers };
 
+    #[tactic(auto, unfolding(crate::specs::Replies::call_answer))]
     fn from(outcome: Result<Done, Refused>) -> Self {
         match outcome {
             Ok(done) => CallAnswer {

@@ -39,6 +39,7 @@ impl From<Result<FoundEntry, Refused>> for EntryAnswer {
 
     ghost from_gives = { EntryAnswers };
 
+    #[tactic(auto, unfolding(crate::specs::Spaces::entry_answer))]
     fn from(outcome: Result<FoundEntry, Refused>) -> Self {
         match outcome {
             Ok(found) => EntryAnswer {
@@ -66,6 +67,7 @@ impl From<Result<SpaceStats, Refusal>> for StatsAnswer {
 
     ghost from_gives = { StatsAnswers };
 
+    #[tactic(auto, unfolding(crate::specs::Spaces::stats_answer))]
     fn from(outcome: Result<SpaceStats, Refusal>) -> Self {
         match outcome {
             Ok(stats) => StatsAnswer {
