@@ -15,6 +15,7 @@ pub extern "C" fn stonespry_is_sound(mem: &[u64]) -> bool
 }
 
 // Opens a world in the memory; the answer's number.
+#[tactic(auto, unfolding(crate::specs::Worlds::numbered))]
 #[unsafe(no_mangle)]
 pub extern "C" fn stonespry_open(
     mem: &mut [u64],

@@ -1,6 +1,0 @@
--- `stonespry_cleanup_process_notifications` meets its contract: the call's reply, seen by `answered`, and its memory.
-use Rattle.host_replies.specs.RepliesLaws.{seen_so}
-use Rattle.host.proofs.revoking.stonespry_cleanup_process_notifications.Goals as goal
-
-pub returns : goal.returns
-returns c = search seen_so
