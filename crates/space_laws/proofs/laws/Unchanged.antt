@@ -1,6 +1,7 @@
 -- A refusal changes nothing: any answer but 0 leaves the memory as it was. Two exceptions: a lookup that found nothing (8) is counted all
 -- the same, and an id that a space's create took is lost where its entry is refused (7, 11).
 use Rattle.std.proofs.Common.{List, ◌≢◌, ◌≡◌, refl, sym, ap, ◌∙◌, ℕ, ◌<◌, arith, Option, None, Some}
+use Rattle.std.specs.Prelude.{is_some}
 use Rattle.answers.specs.Number.{number_of}
 use Rattle.answers.specs.Answer.{Answer, Done, SpaceIds}
 use Rattle.base.specs.Part.{on_part_same}
@@ -9,7 +10,7 @@ use Rattle.space.specs.Lookup.{exactly, looked_up}
 use Rattle.space.specs.Words.{slot_words}
 use Rattle.space.proofs.laws.Insert.{insert_by_cases, zero_is_done}
 use Rattle.steps.specs.Enter.{on_space}
-use Rattle.steps.specs.Steps.{space_of, is_entry, insert_step, remove_step, take_step, new_entry}
+use Rattle.steps.specs.Steps.{space_of, insert_step, remove_step, take_step, new_entry}
 use Rattle.steps.proofs.ChangingEntries.{refused_insert, remove_absent}
 use Rattle.base.specs.Cases.{either}
 use Rattle.steps.proofs.laws.Taking.{take_by_cases, none_taken}
@@ -51,7 +52,7 @@ module _ (d : Numbers) (s : ℕ) (mem : List ℕ) where
 
   absent_remove : (token : ℕ) → (looked_up sp token).got ≡ None → remove_step d s token mem ≡ mem
   absent_remove token none =
-      sym (remove_absent d s mem token _ _ refl refl (ap is_entry none))
+      sym (remove_absent d s mem token _ _ refl refl (ap is_some none))
       ∙ on_part_same (start_of d (space s)) (size_of d (space s)) (λ sp. removed_token sp token) mem (nothing_removed token none)
 
   missed_remove :
