@@ -5,28 +5,29 @@ ghost use Rattle.base.specs.Written.{written};
 ghost use Rattle.revocation.specs.Queue.{notices};
 ghost use Rattle.steps.specs.Ready.{Fits, QueuesReady};
 ghost use Rattle.world.specs.Regions.{queue, view};
-ghost use Rattle.world.specs.Sound.{lengths};
+ghost use Rattle.world.specs.Sound.{lengths, pids};
 ghost use Rattle.revocation_steps.specs.Revocation.{queue_for, free_queue, free_queues, is_in, new_queues, notify_step, notify_pids, notify_all, free_step};
 
 use revocation::RevocationReason;
-use revocation::queues::{LENGTH, QUEUE};
+use revocation::queues::{LENGTH, PID};
 use world::Numbers;
 use world::regions::queue_at;
 
-// Whether the place of a queue that starts at `at` is the queue of the pid.
-fn is_queue_of(mem: &[u64], at: usize, pid: u64) -> bool
-    requires { at + 771 ≤ length mem.now }
-    ensures { result ≡ both (ltb 0 (get_or mem.now (at + 2) 0)) (eqb (get_or mem.now at 0) pid) }
+// Whether place q is the queue of the pid.
+fn is_queue_of(mem: &[u64], d: Numbers, q: usize, pid: u64) -> bool
+    requires { Fits d mem.now × (q < d.queues) }
+    ensures { result ≡ both (ltb 0 (lengths d mem.now q)) (eqb (pids d mem.now q) pid) }
 {
-    0 < mem[at + LENGTH] && mem[at] == pid
+    let at = queue_at(d, q);
+    0 < mem[at + LENGTH] && mem[at + PID] == pid
 }
 
 // Whether it is free.
-fn is_free(mem: &[u64], at: usize) -> bool
-    requires { at + 771 ≤ length mem.now }
-    ensures { result ≡ eqb (get_or mem.now (at + 2) 0) 0 }
+fn is_free(mem: &[u64], d: Numbers, q: usize) -> bool
+    requires { Fits d mem.now × (q < d.queues) }
+    ensures { result ≡ eqb (lengths d mem.now q) 0 }
 {
-    mem[at + LENGTH] == 0
+    queue_length(mem, d, q) == 0
 }
 
 // The place of the queue of a pid, or how many places there are.
@@ -34,12 +35,10 @@ pub fn queue_for(mem: &[u64], d: Numbers, pid: u64) -> usize
     requires { Fits d mem.now }
     ensures { (result ≡ queue_for d mem.now pid) × (result ≤ d.queues) }
 {
-    let mut at = queue_at(d, 0);
     for q in 0..d.queues {
-        if is_queue_of(mem, at, pid) {
+        if is_queue_of(mem, d, q, pid) {
             return q;
         }
-        at += QUEUE;
     }
     d.queues
 }
@@ -49,12 +48,10 @@ pub fn free_queue(mem: &[u64], d: Numbers) -> usize
     requires { Fits d mem.now }
     ensures { (result ≡ free_queue d mem.now) × (result ≤ d.queues) }
 {
-    let mut at = queue_at(d, 0);
     for q in 0..d.queues {
-        if is_free(mem, at) {
+        if is_free(mem, d, q) {
             return q;
         }
-        at += QUEUE;
     }
     d.queues
 }
@@ -64,11 +61,9 @@ pub fn free_queues(mem: &[u64], d: Numbers) -> usize
     requires { Fits d mem.now }
     ensures { (result ≡ free_queues d mem.now) × (result ≤ d.queues) }
 {
-    let mut at = queue_at(d, 0);
     let mut free = 0;
     for q in 0..d.queues {
-        free += is_free(mem, at) as usize;
-        at += QUEUE;
+        free += is_free(mem, d, q) as usize;
     }
     free
 }

@@ -1,11 +1,10 @@
--- Those before q are counted.
-use Rattle.std.proofs.Common.{Bool, List, ◌≡◌, refl, sym, ap, ℕ, ◌+◌, ◌≤◌, eqb, length, get_or}
+-- The free ones before q are counted.
+use Rattle.std.proofs.Common.{Bool, List, ◌≡◌, sym, ap, ℕ, ◌+◌, ◌≤◌, eqb}
 use Rattle.base.specs.Below.{sum, one}
 use Rattle.base.specs.SumLaws.{sum-zero, sum_goes, sum_done}
 use Rattle.world.specs.Sound.{lengths}
 use Rattle.world.specs.declared.Numbers.{Numbers}
 use Rattle.revocation_steps.specs.Revocation.{free_queues}
-use Rattle.revocation_steps.proofs.AlongQueues.{Along, free_here}
 use Rattle.revocation_steps.proofs.queues.free_queues.Given as goal
 
 module _ (d : Numbers) (mem : List ℕ) where
@@ -19,14 +18,13 @@ module _ (d : Numbers) (mem : List ℕ) where
   pub starts : Counted 0 0
   starts = sym (sum-zero here)
 
-  module _ (q at free : ℕ) (along : Along d q at) (counted : Counted q free) where
-    pub done : d.queues ≤ q → free ≡ free_queues d mem
+  module _ (q free : ℕ) (counted : Counted q free) where
+    pub done : q ≤ d.queues → d.queues ≤ q → free ≡ free_queues d mem
     unfolding free_queues
-    done u = sum_done here q d.queues free counted along.within u
+    done l u = sum_done here q d.queues free counted l u
 
-    pub counts : (b : Bool) → b ≡ eqb (get_or mem (at + 2) 0) 0 → Counted (q + 1) (free + one b)
-    counts b e = sum_goes here q free (one b) counted (ap one (sym (free_here d mem q at along b b e refl)))
+    pub counts : (b : Bool) → b ≡ eqb (lengths d mem q) 0 → Counted (q + 1) (free + one b)
+    counts b e = sum_goes here q free (one b) counted (ap one e)
 
 abbrev pub invariant-loop-q : goal.invariant-loop-q
-invariant-loop-q l =
-    (l.at ≤ length l.mem) × (l.free ≤ l.q) × Along l.fn.d l.q l.at × Counted l.fn.d l.mem l.q l.free
+invariant-loop-q l = (l.free ≤ l.q) × Counted l.d l.mem l.q l.free

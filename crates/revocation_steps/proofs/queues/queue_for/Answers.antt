@@ -1,15 +1,12 @@
 use Rattle.std.proofs.Common.{rules}
 use Rattle.base.specs.FirstLaws.{first_up}
-use Rattle.revocation_steps.proofs.AlongQueues.{queue_here, along_laws}
+use Rattle.revocation_steps.proofs.AtQueues.{test_says}
 use Rattle.revocation_steps.proofs.queues.queue_for.Goals as goal
 
-ruleset laws = (rules, along_laws, first_up, queue_here)
+ruleset laws = (rules, first_up, test_says)
 
 pub loop-q-init : goal.loop-q-init
 loop-q-init c = search laws
-
-pub is_queue_of-requires : goal.is_queue_of-requires
-is_queue_of-requires c = search laws
 
 pub returns-then-is_queue_of : goal.returns-then-is_queue_of
 returns-then-is_queue_of c = search laws
