@@ -10,7 +10,7 @@ ghost use Rattle.world.specs.Sound.{SoundAt};
 ghost use Rattle.revocation_reads.specs.Calls.{is_revoked_out, epoch_out, descendants, descendants_out, reason_out};
 
 use answers::Refusal;
-use revocation::reason_of;
+use revocation::RevocationReason;
 use revocation_steps::descent::{descend, ids_at};
 use revocation_steps::log::has_pair;
 use steps::enter::enter_world;
@@ -74,15 +74,13 @@ pub fn get_derivation_tree(mem: &[u64], id: u64, area: &mut [u64]) -> Result<Don
 
 /// Writes the name of a reason, by its number, to the front of the area; the value is its length in bytes. 21 for a number of no reason, or
 /// an area that is too short for the name.
+#[tactic(auto, unfolding(crate::specs::Calls::reason_out, steps::specs::Replies::into_area, base::specs::Choose::when))]
 pub fn write_reason(reason: u8, area: &mut [u8]) -> Result<Done, Refused>
     ensures { record { reply = told result; area = area.new } ≡ reason_out «reason» area.old }
 {
-    if 3 < reason {
+    let reason = RevocationReason::try_from(reason)?;
+    if area.len() < reason.name().len() {
         Err(Refusal::BadField)?;
     }
-    let name = reason_of(reason);
-    if area.len() < name.name_length() {
-        Err(Refusal::BadField)?;
-    }
-    Ok(Done::with(revocation::write_reason(name, area) as u64))
+    Ok(Done::with(revocation::write_reason(reason, area) as u64))
 }
