@@ -1,6 +1,6 @@
 -- Document 01: a field that an op does not read must be zero (else 21), by a fixed table over the ops. 20 first where the op reads a space
 -- number of S or more. An op outside 1..15 answers 21.
-use Rattle.std.specs.Prelude.{Bool, true, not, List, [], ◌∷◌, ℕ, ◌/◌, ◌%◌, ◌^◌, eqb, ltb, get_or, ⊤, tt, Result, Ok, Err}
+use Rattle.std.specs.Prelude.{Bool, true, not, List, [], ◌∷◌, ℕ, ◌/◌, ◌%◌, ◌^◌, eqb, ltb, get_or, ⊤, Result, Ok, Err}
 use Rattle.answers.specs.declared.Refusal.{Refusal}
 use Rattle.answers.specs.declared.Refusal.TheVariants.{BadSpace, BadField}
 use Rattle.base.specs.Below.{all}

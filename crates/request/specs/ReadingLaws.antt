@@ -1,5 +1,5 @@
 -- When a record's call is made and when it is refused, in words of its fields.
-use Rattle.std.specs.Prelude.{◌≡◌, refl, ◌↔◌, ◌≢◌, Bool, true, false, not, ℕ, ◌<◌, ◌≤◌, eqb, ltb, ⊤, tt, Result, Ok, Err}
+use Rattle.std.specs.Prelude.{◌≡◌, refl, ◌↔◌, ◌≢◌, Bool, true, false, not, ℕ, ◌<◌, ◌≤◌, eqb, ltb, ⊤, Result, Ok, Err}
 use Rattle.std.proofs.Common.{sym, true≢false, arith, ltb-false, le-ltb, ne_eqb}
 use Rattle.std.proofs.lemmas.Bool.{eqb-false, not-false}
 use Rattle.std.proofs.Math.Logic.Iff

@@ -1,5 +1,5 @@
-// The records of the request stream: the fields of one, which of them each operation reads, what is refused before a call is made, and the
-// line that is printed for it. The calls and a whole run are `request_run`.
+//! The records of the request stream: the fields of one, which of them each operation reads, what is refused before a call is made, and the
+//! line that is printed for it. The calls and a whole run are `request_run`.
 #![tactic(auto)]
 
 mod line;

@@ -1,4 +1,4 @@
-// The line that is printed for a record, written behind the lines before it.
+//! The line that is printed for a record, written behind the lines before it.
 ghost use Rattle.std.specs.Prelude.{[], ◌∷◌, ◌++◌, ◌+◌, ◌<◌, ◌≤◌, length};
 ghost use Rattle.request.specs.Laid.{Laid};
 ghost use Rattle.request.specs.Lines.{decimal, hex, line_of};
@@ -8,14 +8,9 @@ fn put(lines: &mut [u8], at: usize, bytes: &[u8]) -> usize
     requires { at + length bytes.now ≤ length lines.old }
     ensures { Laid at bytes.now lines.old lines.new result }
 {
-    let mut i = at;
-    let mut j = 0;
-    while j < bytes.len() {
-        lines[i] = bytes[j];
-        i += 1;
-        j += 1;
-    }
-    i
+    let end = at + bytes.len();
+    lines[at..end].copy_from_slice(bytes);
+    end
 }
 
 // A text and what ends it.

@@ -1,4 +1,4 @@
-// The table of the fields that each operation reads, and what is refused by it.
+//! The table of the fields that each operation reads, and what is refused by it.
 ghost use Rattle.std.specs.Prelude.{true, not, ◌≡◌, ◌%◌, ◌≤◌, eqb, ltb, get_or};
 ghost use Rattle.base.specs.Choose.{pick};
 ghost use Rattle.request.specs.Reading.{masks, zero_unread, too_far, verdict_of};
@@ -35,13 +35,11 @@ fn zero_unread(r: Request) -> bool
 {
     let fields = [r.space, r.second, r.valid, r.cap_type, r.rights, r.a, r.b];
     let mut mask = mask_of(r.op);
-    let mut i = 0;
-    while i < 7 {
-        if is_stray(mask, fields[i]) {
+    for field in fields {
+        if is_stray(mask, field) {
             return false;
         }
         mask = mask / 2;
-        i += 1;
     }
     r.zero == 0
 }

@@ -1,4 +1,4 @@
-// The fields of a record, from its 24 bytes.
+//! The fields of a record, from its 24 bytes.
 ghost use Rattle.std.specs.Prelude.{◌≡◌, ◌+◌, ◌<◌, ◌≤◌, length};
 ghost use Rattle.request.specs.Record.{word_at, request_of};
 
@@ -9,13 +9,9 @@ fn word_at(bytes: &[u8], i: usize) -> u64
     requires { i + 8 ≤ length bytes.now }
     ensures { result ≡ word_at bytes.now i }
 {
-    let mut word = 0;
-    let mut j = 0;
-    while j < 8 {
-        word = word * 256 + bytes[i + j] as u64;
-        j += 1;
-    }
-    word
+    let mut word = [0u8; 8];
+    word.copy_from_slice(&bytes[i..i + 8]);
+    u64::from_be_bytes(word)
 }
 
 // The fields of the record that begins at place i.

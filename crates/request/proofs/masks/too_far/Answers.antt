@@ -26,5 +26,5 @@ ruleset laws = (rules, at_first, at_second)
 pub returns-then-is_far : goal.returns-then-is_far
 returns-then-is_far c = search laws
 
-pub returns : goal.returns
-returns c = search laws
+pub returns-else-is_far : goal.returns-else-is_far
+returns-else-is_far c = search laws

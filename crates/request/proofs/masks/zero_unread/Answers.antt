@@ -33,14 +33,14 @@ module _ (r : Request) (mask i : ℕ) (looking : Looking r mask i) where
 
 ruleset laws = (rules, starts, goes, stops, ends)
 
-pub loop-i-init : goal.loop-i-init
-loop-i-init c = search laws
+pub loop-field-init : goal.loop-field-init
+loop-field-init c = search laws
 
 pub returns-then-is_stray : goal.returns-then-is_stray
 returns-then-is_stray c = search laws
 
-pub loop-i-preserved : goal.loop-i-preserved
-loop-i-preserved c = search laws
+pub loop-field-preserved : goal.loop-field-preserved
+loop-field-preserved c = search laws
 
 pub returns : goal.returns
 returns c = search laws

@@ -1,5 +1,5 @@
 -- `request::masks::zero_unread` meets its contract: the fields before the i-th are read or zero, and the mask's low bit is of the i-th.
-use Rattle.std.proofs.Common.{Bool, true, ◌≡◌, ℕ, ◌-◌, ◌/◌, ◌^◌, ◌≤◌, eqb, get_or}
+use Rattle.std.proofs.Common.{Bool, true, ◌≡◌, ℕ, ◌/◌, ◌^◌, ◌≤◌, eqb, get_or}
 use Rattle.base.specs.Below.{all}
 use Rattle.base.specs.Choose.{pick}
 use Rattle.request.specs.declared.Request.{Request}
@@ -14,8 +14,5 @@ pub record Looking (r : Request) (mask i : ℕ) : Type 0 where
   pub here : mask ≡ get_or masks r.op 0 / 2 ^ i
   pub before : all i (kept r) ≡ true
 
-abbrev pub invariant-loop-i : goal.invariant-loop-i
-invariant-loop-i l = Looking l.r l.mask l.i
-
-abbrev pub decreases-loop-i : goal.decreases-loop-i
-decreases-loop-i l = 7 - l.i
+abbrev pub invariant-loop-field : goal.invariant-loop-field
+invariant-loop-field l = Looking l.r l.mask l.field-index

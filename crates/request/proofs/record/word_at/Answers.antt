@@ -1,47 +1,29 @@
-use Rattle.std.proofs.Common.{◌≡◌, refl, List, ℕ, suc, ◌+◌, ◌-◌, ◌*◌, ◌^◌, ◌<◌, ◌≤◌, pow-suc, add_assoc, add-zero, add-one, arith, rules, get_or}
-use Rattle.std.proofs.Math.Nat.{pow-le-pow_right}
+-- `request::record::word_at` meets its contract: the eight bytes, each by its worth, are the word that they make one after the other.
+use Rattle.std.proofs.Common.{◌≡◌, ◌∙◌, List, ℕ, ◌+◌, ◌-◌, ◌<◌, ap, add_assoc, add-zero, arith, get_or, take, drop, get_or-take, get_or-drop}
+use Rattle.std.specs.Int.{from_be_bytes, w64}
 use Rattle.request.specs.Record.{word_from, word_at}
-use Rattle.request.proofs.record.word_at.Invariants.{Reading}
 use Rattle.request.proofs.record.word_at.Goals as goal
 
-starts : (bytes : List ℕ) (i : ℕ) → Reading bytes i 0 0
-starts bytes i = record { inside = omega arith; small = omega arith; answer = rw add-zero refl }
+module _ (bytes : List ℕ) (i : ℕ) where
+  byte : (j : ℕ) → j < 8 → get_or (take (i + 8 - i) (drop i bytes)) j 0 ≡ get_or bytes (i + j) 0
+  byte j l = get_or-take (i + 8 - i) (drop i bytes) j 0 (omega arith) ∙ get_or-drop i bytes j 0
 
-module _ (bytes : List ℕ) (i word j : ℕ) (reading : Reading bytes i word j) where
-  room : j < 8 → word < 2 ^ 56
-  room l = omega (arith, reading.small, pow-le-pow_right {n = 256} (omega arith) {i = j} {j = 7} (omega arith))
-
-  goes : j < 8 → get_or bytes (i + j) 0 < 256 → Reading bytes i (word * 256 + get_or bytes (i + j) 0) (j + 1)
+  read : from_be_bytes w64 (take (i + 8 - i) (drop i bytes)) ≡ word_at bytes i
   unfolding word_from
-  goes l byte =
-      let more : 8 - j ≡ suc (8 - (j + 1)) = omega arith in
-      record {
-        inside = omega arith;
-        small = rw (add-one j, pow-suc) (omega (arith, reading.small));
-        answer = rw (← add_assoc) (rw more at reading.answer);
-      }
-
-  ends : 8 ≤ j → word ≡ word_at bytes i
-  unfolding word_from
-  ends u = let none : 8 - j ≡ 0 = omega arith in rw none at reading.answer
-
-ruleset laws = (rules, starts, ends)
-
-pub overflow_mul-word : goal.overflow_mul-word
-overflow_mul-word c = omega (arith, room _ _ _ _ c.loop-j.invariant c.loop-j-test.true)
-
-pub overflow_add-word-in-loop-j : goal.overflow_add-word-in-loop-j
-overflow_add-word-in-loop-j c =
-    omega (
-      arith,
-      room _ _ _ _ c.loop-j.invariant c.loop-j-test.true,
-      c.type_inv.bytes (c.args.i + c.loop-j.j),
-    )
-
-pub loop-j-preserved : goal.loop-j-preserved
-loop-j-preserved c =
-    goes _ _ _ _ c.loop-j.invariant c.loop-j-test.true
-    (omega (arith, c.type_inv.bytes (c.args.i + c.loop-j.j)))
+  read =
+      let first : get_or (take (i + 8 - i) (drop i bytes)) 0 0 ≡ get_or bytes i 0 = rw add-zero at (byte 0 (omega arith)) in
+      simp add_assoc
+      (omega (
+        arith,
+        first,
+        byte 1 (omega arith),
+        byte 2 (omega arith),
+        byte 3 (omega arith),
+        byte 4 (omega arith),
+        byte 5 (omega arith),
+        byte 6 (omega arith),
+        byte 7 (omega arith),
+      ))
 
 pub returns : goal.returns
-returns c = search laws
+returns c = c.from_be_bytes.ensures ∙ ap (from_be_bytes w64) c.copy_from_slice.ensures.after ∙ read c.args.bytes.now c.args.i
