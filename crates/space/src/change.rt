@@ -5,18 +5,17 @@ ghost use Rattle.space.specs.Lookup.{is_found, search_id, looked_up};
 ghost use Rattle.space.specs.Change.{inserted_table, inserted, insert_out, answered, removed, removed_token, cleared, next_generation};
 
 use super::LookedUp;
-use super::find::{entry_of, exact, search_id};
-use super::words::{TABLE, generation, put_generation, put_table, quota, table_of, used};
+use super::view::Space;
+use super::words::{TABLE, put_generation, put_table, table_of};
 use answers::Refusal;
 use table::{CapTable, CapabilityEntry};
 use token::CapabilityToken;
 
 // Whether an entry has the id.
-fn holds_id(sp: &[u64], id: u64) -> bool
-    requires { InRange sp.now }
-    ensures { result ≡ is_found (search_id sp.now id).found }
+fn holds_id(space: &Space<'_>, id: u64) -> bool
+    ensures { result ≡ is_found (search_id space.now.words.now id).found }
 {
-    search_id(sp, id).found.is_some()
+    space.search_id(id).found.is_some()
 }
 
 fn accept(sp: &mut [u64], entry: CapabilityEntry) -> usize
@@ -35,10 +34,11 @@ pub fn insert(sp: &mut [u64], entry: CapabilityEntry) -> Result<usize, Refusal>
     requires { InRange sp.old }
     ensures { answered result sp.new ≡ insert_out sp.old entry }
 {
-    if quota(sp) <= used(sp) {
+    let space = Space { words: sp };
+    if space.quota() <= space.used() {
         return Err(Refusal::SpaceQuota);
     }
-    if holds_id(sp, entry.capability.id()) {
+    if holds_id(&space, entry.capability.id()) {
         return Err(Refusal::AlreadyExists);
     }
     Ok(accept(sp, entry))
@@ -60,8 +60,9 @@ pub fn remove(sp: &mut [u64], token: CapabilityToken) -> LookedUp
     ensures sp_after { sp.new ≡ removed_token sp.old token.0 }
     ensures value { result ≡ looked_up sp.old token.0 }
 {
-    let s = exact(sp, token);
-    let answer = entry_of(sp, s);
+    let space = Space { words: sp };
+    let s = space.exact(token);
+    let answer = space.entry_of(s);
     if let Some(i) = s.found {
         remove_slot(sp, i);
     }
@@ -79,6 +80,6 @@ pub fn next_generation(sp: &mut [u64])
     requires { InRange sp.old }
     ensures { sp.new ≡ next_generation sp.old }
 {
-    let next = generation(sp).wrapping_add(1);
+    let next = Space { words: sp }.generation().wrapping_add(1);
     put_generation(sp, next);
 }

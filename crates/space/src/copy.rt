@@ -1,18 +1,20 @@
 // Copying a space: the source's entries into a scratch array, then from there into the target.
 ghost use Rattle.std.specs.Prelude.{◌≡◌, ◌≤◌, length};
 ghost use Rattle.table.specs.Insert.{holds, gathered};
-ghost use Rattle.space.specs.Words.{words_for, table_of, slot_words, InRange};
+ghost use Rattle.space.specs.Words.{words_for, table_of, slot_words};
 ghost use Rattle.space.specs.Copy.{replacement, replaced};
 
-use super::words::{TABLE, put_generation, put_table, table_capacity};
+use super::view::Space;
+use super::words::{TABLE, put_generation, put_table};
 
-// The live entries, in slot order, into the scratch.
-pub fn gather(sp: &[u64], scratch: &mut [u64; 2048]) -> usize
-    requires { InRange sp.now }
-    ensures { holds scratch.new result
-        ≡ gathered (slot_words sp.now) 0 (table_of sp.now).slots (holds scratch.old 0) }
-{
-    table::gather(&sp[TABLE..], table_capacity(sp), scratch)
+impl<'a> Space<'a> {
+    // The live entries, in slot order, into the scratch.
+    pub fn gather(&self, scratch: &mut [u64; 2048]) -> usize
+        ensures { holds scratch.new result
+            ≡ gathered (slot_words self.now.words.now) 0 (table_of self.now.words.now).slots (holds scratch.old 0) }
+    {
+        table::gather(&self.words[TABLE..], self.table_capacity(), scratch)
+    }
 }
 
 // The space takes the scratch's first `count` entries for its own, whatever it held, and the generation; the answer is the moves.

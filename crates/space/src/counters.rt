@@ -1,10 +1,9 @@
 // The hits and misses of a space as one record that is changed where it stands, lent by `&mut` to the lookup that counts. Both are words
 // of the space, and no reference to a record can point into a slice of words. So the record stands in a local while it is lent.
 ghost use Rattle.std.specs.Prelude.{◌≡◌};
-ghost use Rattle.space.specs.Words.{InRange};
 ghost use Rattle.space.specs.Counters.{one_counted, search_and, counted_search};
 
-use super::find::exact;
+use super::view::Space;
 use table::Search;
 use token::CapabilityToken;
 
@@ -33,21 +32,19 @@ fn count(c: &mut Counters, hit: bool)
 }
 
 // The lookup that counts: where exactly the token is found, a hit or a miss.
-fn lookup_counted(sp: &[u64], token: CapabilityToken, c: &mut Counters) -> Search
-    requires { InRange sp.now }
-    ensures { search_and result c.new ≡ counted_search sp.now token.0 c.old }
+fn lookup_counted(space: &Space<'_>, token: CapabilityToken, c: &mut Counters) -> Search
+    ensures { search_and result c.new ≡ counted_search space.now.words.now token.0 c.old }
 {
-    let s = exact(sp, token);
+    let s = space.exact(token);
     count(c, s.found.is_some());
     s
 }
 
 // The record is lent to the lookup and comes back.
-pub fn lend(sp: &[u64], token: CapabilityToken, c: Counters) -> CountedSearch
-    requires { InRange sp.now }
-    ensures { result ≡ counted_search sp.now token.0 c }
+pub fn lend(space: &Space<'_>, token: CapabilityToken, c: Counters) -> CountedSearch
+    ensures { result ≡ counted_search space.now.words.now token.0 c }
 {
     let mut counters = c;
-    let search = lookup_counted(sp, token, &mut counters);
+    let search = lookup_counted(space, token, &mut counters);
     CountedSearch { search, counters }
 }

@@ -8,55 +8,75 @@ ghost use Rattle.space.specs.Lookup.{search_id, SearchOf, entry_of, wholly, exac
 
 use super::LookedUp;
 use super::counters::lend;
-use super::words::{TABLE, counters_of, put_counters, table_capacity};
+use super::view::Space;
+use super::words::{TABLE, put_counters};
 use table::{CapabilityEntry, Search};
 use token::CapabilityToken;
 
-pub fn search_id(sp: &[u64], id: u64) -> Search
-    requires { InRange sp.now }
-    ensures { result ≡ search_id sp.now id }
-{
-    table::find(&sp[TABLE..], table_capacity(sp), id)
-}
-
-fn entry_at(sp: &[u64], i: usize) -> CapabilityEntry
-    requires { SlotOf sp.now i }
-    ensures { result ≡ entry_at (slot_words sp.now) i }
-{
-    table::entry_at(&sp[TABLE..], i)
-}
-
-// What a search answers: the entry of the slot where it ended, and its visits.
-pub fn entry_of(sp: &[u64], s: Search) -> LookedUp
-    requires { SearchOf sp.now s }
-    ensures { result ≡ entry_of sp.now s }
-{
-    LookedUp {
-        got: s.found.map(|i| entry_at(sp, i)),
-        visits: s.visits,
+impl<'a> Space<'a> {
+    pub fn search_id(&self, id: u64) -> Search
+        ensures { result ≡ search_id self.now.words.now id }
+    {
+        table::find(&self.words[TABLE..], self.table_capacity(), id)
     }
-}
 
-// Slot i, if it holds the whole token.
-fn whole(sp: &[u64], token: u64, i: usize) -> Option<usize>
-    requires { SlotOf sp.now i }
-    ensures { result ≡ wholly sp.now token (Some i) }
-{
-    (sp[TABLE + 4 * i] == token).then_some(i)
-}
+    fn entry_at(&self, i: usize) -> CapabilityEntry
+        requires { SlotOf self.now.words.now i }
+        ensures { result ≡ entry_at (slot_words self.now.words.now) i }
+    {
+        table::entry_at(&self.words[TABLE..], i)
+    }
 
-// The slot that holds exactly the token, and the slots that the search of its id visited.
-pub fn exact(sp: &[u64], token: CapabilityToken) -> Search
-    requires { InRange sp.now }
-    ensures { result ≡ exact_search sp.now token.0 }
-{
-    let s = search_id(sp, token.id());
-    let Some(i) = s.found else {
-        return s;
-    };
-    Search {
-        found: whole(sp, token.0, i),
-        ..s
+    // What a search answers: the entry of the slot where it ended, and its visits.
+    pub fn entry_of(&self, s: Search) -> LookedUp
+        requires { SearchOf self.now.words.now s }
+        ensures { result ≡ entry_of self.now.words.now s }
+    {
+        let got = match s.found {
+            Some(i) => Some(self.entry_at(i)),
+            None => None,
+        };
+        LookedUp {
+            got,
+            visits: s.visits,
+        }
+    }
+
+    // Slot i, if it holds the whole token.
+    fn whole(&self, token: u64, i: usize) -> Option<usize>
+        requires { SlotOf self.now.words.now i }
+        ensures { result ≡ wholly self.now.words.now token (Some i) }
+    {
+        (self.words[TABLE + 4 * i] == token).then_some(i)
+    }
+
+    // The slot that holds exactly the token, and the slots that the search of its id visited.
+    pub fn exact(&self, token: CapabilityToken) -> Search
+        ensures { result ≡ exact_search self.now.words.now token.0 }
+    {
+        let s = self.search_id(token.id());
+        let Some(i) = s.found else {
+            return s;
+        };
+        Search {
+            found: self.whole(token.0, i),
+            ..s
+        }
+    }
+
+    // The entry of an id, whatever its generation; not counted.
+    pub fn get_entry(&self, id: u64) -> LookedUp
+        ensures { result ≡ got_entry self.now.words.now id }
+    {
+        self.entry_of(self.search_id(id))
+    }
+
+    // The n-th live entry in slot order, n from 0.
+    pub fn nth_entry(&self, n: usize) -> Option<CapabilityEntry>
+        ensures { result
+            ≡ nth_of (live_entries (slot_words self.now.words.now) 0 (table_of self.now.words.now).slots) n }
+    {
+        table::nth_entry(&self.words[TABLE..], self.table_capacity(), n)
     }
 }
 
@@ -75,27 +95,12 @@ pub fn lookup(sp: &mut [u64], token: CapabilityToken) -> LookedUp
     ensures sp_after { sp.new ≡ counted sp.old token.0 }
     ensures value { result ≡ looked_up sp.old token.0 }
 {
-    let counted = lend(sp, token, counters_of(sp));
-    let answer = entry_of(sp, counted.search);
+    let space = Space { words: sp };
+    let counted = lend(&space, token, space.counters());
+    let answer = space.entry_of(counted.search);
     if let Some(i) = counted.search.found {
         count_use(sp, i);
     }
     put_counters(sp, counted.counters);
     answer
-}
-
-// The entry of an id, whatever its generation; not counted.
-pub fn get_entry(sp: &[u64], id: u64) -> LookedUp
-    requires { InRange sp.now }
-    ensures { result ≡ got_entry sp.now id }
-{
-    entry_of(sp, search_id(sp, id))
-}
-
-// The n-th live entry in slot order, n from 0.
-pub fn nth_entry(sp: &[u64], n: usize) -> Option<CapabilityEntry>
-    requires { InRange sp.now }
-    ensures { result ≡ nth_of (live_entries (slot_words sp.now) 0 (table_of sp.now).slots) n }
-{
-    table::nth_entry(&sp[TABLE..], table_capacity(sp), n)
 }

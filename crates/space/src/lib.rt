@@ -8,15 +8,16 @@ mod counters;
 mod find;
 mod ids;
 mod sound;
+mod view;
 mod words;
 
 pub use change::{clear, insert, next_generation, remove};
-pub use copy::{gather, replace};
-pub use find::{get_entry, lookup, nth_entry};
-pub use ids::entry_ids;
+pub use copy::replace;
+pub use find::lookup;
 pub use sound::is_sound;
 use table::CapabilityEntry;
-pub use words::{SLOTS, TABLE, generation, hits, misses, quota, table_capacity, used};
+pub use view::Space;
+pub use words::{SLOTS, TABLE};
 
 // The entry that a call found, if it found one, and the slots that its search visited.
 #[derive(Clone, Copy, PartialEq, Eq, Debug)]

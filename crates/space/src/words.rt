@@ -10,57 +10,18 @@ pub const QUOTA: usize = 0;
 
 pub const GENERATION: usize = 1;
 
-const HITS: usize = 2;
+pub const HITS: usize = 2;
 
-const MISSES: usize = 3;
+pub const MISSES: usize = 3;
 
 pub const SLOTS: usize = 5;
 
-const LIVE: usize = 6;
+pub const LIVE: usize = 6;
 
 const REMOVED: usize = 7;
 
 // Where the slots of the table begin.
 pub const TABLE: usize = 8;
-
-pub fn quota(sp: &[u64]) -> usize
-    requires { InRange sp.now }
-    ensures { result ≡ quota_of sp.now }
-{
-    sp[QUOTA] as usize
-}
-
-pub fn generation(sp: &[u64]) -> u8
-    requires { InRange sp.now }
-    ensures { result ≡ generation_of sp.now }
-{
-    sp[GENERATION] as u8
-}
-
-pub fn hits(sp: &[u64]) -> u64
-    requires { InRange sp.now }
-    ensures { result ≡ hits_of sp.now }
-{
-    sp[HITS]
-}
-
-pub fn misses(sp: &[u64]) -> u64
-    requires { InRange sp.now }
-    ensures { result ≡ misses_of sp.now }
-{
-    sp[MISSES]
-}
-
-// The two counters as one record, and one stored in their place.
-pub fn counters_of(sp: &[u64]) -> Counters
-    requires { InRange sp.now }
-    ensures { result ≡ counters_of sp.now }
-{
-    Counters {
-        hits: sp[HITS],
-        misses: sp[MISSES],
-    }
-}
 
 pub fn put_counters(sp: &mut [u64], c: Counters)
     requires { 8 ≤ length sp.old }
@@ -68,22 +29,6 @@ pub fn put_counters(sp: &mut [u64], c: Counters)
 {
     sp[HITS] = c.hits;
     sp[MISSES] = c.misses;
-}
-
-// Slots allocated by the table.
-pub fn table_capacity(sp: &[u64]) -> usize
-    requires { InRange sp.now }
-    ensures { result ≡ (table_of sp.now).slots }
-{
-    sp[SLOTS] as usize
-}
-
-// The current number of capabilities; the source's `total_caps` is the same word.
-pub fn used(sp: &[u64]) -> usize
-    requires { InRange sp.now }
-    ensures { result ≡ (table_of sp.now).full }
-{
-    sp[LIVE] as usize
 }
 
 pub fn table_of(sp: &[u64]) -> CapTable

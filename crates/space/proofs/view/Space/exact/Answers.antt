@@ -1,6 +1,6 @@
--- `space::find::exact` meets its contract: where the search of the id ended, the whole token is compared.
+-- `space::view::Space::exact` meets its contract: where the search of the id ended, the whole token is compared.
 use Rattle.space.proofs.CodeFind.{find_laws}
-use Rattle.space.proofs.find.exact.Goals as goal
+use Rattle.space.proofs.view.Space.exact.Goals as goal
 
 pub returns-in_default : goal.returns-in_default
 returns-in_default c = search find_laws

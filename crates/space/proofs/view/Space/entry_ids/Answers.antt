@@ -9,8 +9,8 @@ use Rattle.table.proofs.CodeSlots.{Other, full_slot, other_slot}
 use Rattle.space.specs.Ids.{ids_of, entry_ids}
 use Rattle.space.specs.Words.{table_of}
 use Rattle.space.proofs.Lent.{lent_rest}
-use Rattle.space.proofs.ids.entry_ids.Invariants.{lent, known}
-use Rattle.space.proofs.ids.entry_ids.Goals as goal
+use Rattle.space.proofs.view.Space.entry_ids.Invariants.{lent, known}
+use Rattle.space.proofs.view.Space.entry_ids.Goals as goal
 
 starts : (ids ws : List ℕ) (slots : ℕ) → known ids 0 ws slots 0 ≡ ids_of (live_entries ws 0 slots)
 unfolding known
