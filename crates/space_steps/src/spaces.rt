@@ -16,7 +16,7 @@ ghost use Rattle.world.specs.Regions.{space, registry, view, on_region};
 ghost use Rattle.steps.specs.Steps.{space_of, facts_of, lookup_step, next_step, new_entry, insert_step, insert_reply, remove_step, clear_step, copy_step, copied_of};
 
 use answers::Refusal;
-use space::LookedUp;
+use space::{LookedUp, Space};
 use steps::holders::{hold, hold_all, release, release_all};
 use steps::{Copied, Done, Facts, Refused};
 use table::CapabilityEntry;
@@ -24,18 +24,29 @@ use token::{CapabilityToken, Rights};
 use world::Numbers;
 use world::head::REGISTERED;
 
+// Space s, to be read.
+fn read<'a>(mem: &'a [u64], d: Numbers, s: usize) -> Space<'a>
+    requires { Ready d mem.now × (s < d.spaces) }
+    ensures { result.words.now ≡ space_of d s mem.now }
+{
+    Space {
+        words: &mem[d.space(s)],
+    }
+}
+
+#[tactic(auto, unfolding(steps::specs::Steps::facts_of))]
 pub fn facts(mem: &[u64], d: Numbers, s: usize) -> Facts
     requires { Ready d mem.now × (s < d.spaces) }
     ensures { result ≡ facts_of (space_of d s mem.now) }
 {
-    let sp = &mem[d.space(s)];
+    let sp = read(mem, d, s);
     Facts {
-        quota: space::quota(sp),
-        generation: space::generation(sp),
-        hits: space::hits(sp),
-        misses: space::misses(sp),
-        slots: space::table_capacity(sp),
-        used: space::used(sp),
+        quota: sp.quota(),
+        generation: sp.generation(),
+        hits: sp.hits(),
+        misses: sp.misses(),
+        slots: sp.table_capacity(),
+        used: sp.used(),
     }
 }
 
@@ -51,7 +62,7 @@ pub fn get_entry(mem: &[u64], d: Numbers, s: usize, id: u64) -> LookedUp
     requires { Ready d mem.now × (s < d.spaces) }
     ensures { result ≡ got_entry (space_of d s mem.now) id }
 {
-    space::get_entry(&mem[d.space(s)], id)
+    read(mem, d, s).get_entry(id)
 }
 
 pub fn nth_entry(mem: &[u64], d: Numbers, s: usize, n: usize) -> Option<CapabilityEntry>
@@ -59,7 +70,7 @@ pub fn nth_entry(mem: &[u64], d: Numbers, s: usize, n: usize) -> Option<Capabili
     ensures { result
         ≡ nth_of (live_entries (slot_words (space_of d s mem.now)) 0 (table_of (space_of d s mem.now)).slots) n }
 {
-    space::nth_entry(&mem[d.space(s)], n)
+    read(mem, d, s).nth_entry(n)
 }
 
 pub fn next_generation(mem: &mut [u64], d: Numbers, s: usize)
@@ -139,7 +150,7 @@ fn ids_of(mem: &[u64], d: Numbers, s: usize, ids: &mut [u64]) -> usize
     requires { Ready d mem.now × (s < d.spaces) × (512 ≤ length ids.old) }
     ensures { (take result ids.new ≡ entry_ids (space_of d s mem.now)) × (result ≤ 512) × (result ≤ length ids.new) }
 {
-    space::entry_ids(&mem[d.space(s)], ids)
+    read(mem, d, s).entry_ids(ids)
 }
 
 // How many entries of space s are strays: their ids are not registered.
@@ -181,9 +192,9 @@ fn copy_entries(mem: &mut [u64], d: Numbers, target: usize, source: usize) -> us
     ensures value { result ≡ (copied_table (space_of d source mem.old) (space_of d target mem.old)).moved }
 {
     let mut scratch = [0u64; 2048];
-    let from = &mem[d.space(source)];
-    let count = space::gather(from, &mut scratch);
-    let generation = space::generation(from);
+    let from = read(mem, d, source);
+    let count = from.gather(&mut scratch);
+    let generation = from.generation();
     space::replace(&mut mem[d.space(target)], &scratch, count, generation)
 }
 
