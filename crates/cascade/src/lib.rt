@@ -21,6 +21,7 @@ use world::Numbers;
 use world::head::{EPOCH, LOGGED, REVOKED};
 
 // The places that a cascade from place r revokes, to the front of `order`. Answers how many they are.
+#[tactic(auto, using(steps::proofs::laws::Ready::ready_at))]
 fn cascade_places(mem: &[u64], d: Numbers, r: usize, order: &mut [u16]) -> usize
     requires { SoundAt d mem.now × (r < registered_of mem.now) × (d.places ≤ length order.old) }
     ensures order_after { (take result order.new ≡ cascade d mem.now r) × (result ≤ d.places) }
@@ -65,7 +66,7 @@ fn revoke_places(
 }
 
 // The same where the log and the queues have room for it, else 24 or 25 and nothing changes.
-#[tactic(auto, unfolding(base::specs::Choose::when))]
+#[tactic(auto, using(steps::proofs::laws::Ready::ready_at, steps::proofs::laws::Ready::queues_ready_at), unfolding(base::specs::Choose::when))]
 fn revoke_listed(
     mem: &mut [u64],
     d: Numbers,
@@ -90,7 +91,7 @@ fn revoke_listed(
 }
 
 // Place r is revoked with all under it. Already revoked: nothing changes.
-#[tactic(auto, unfolding(crate::specs::Cascade::revoking, base::specs::Choose::when))]
+#[tactic(auto, using(steps::proofs::laws::Ready::ready_at), unfolding(crate::specs::Cascade::revoking, base::specs::Choose::when))]
 pub fn revoke_at(mem: &mut [u64], d: Numbers, r: usize, time: u64, listed: &[u64]) -> Result<Done, Refused>
     requires { SoundAt d mem.old × (r < registered_of mem.old) }
     ensures { record { reply = told result; memory = mem.new } ≡ revoking d r time listed.now mem.old }

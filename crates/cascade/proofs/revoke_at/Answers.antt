@@ -7,7 +7,6 @@ use Rattle.registry.specs.Children.{ids_at}
 use Rattle.registry.specs.ChildrenLaws.{ids_at-length}
 use Rattle.revocation_steps.specs.Revocation.{cascade, cascade_ids}
 use Rattle.revocation_steps.proofs.laws.Cascade.{cascade_first}
-use Rattle.steps.proofs.laws.Ready.{ready_at}
 use Rattle.world.specs.Numbers.{registered_of}
 use Rattle.world.specs.Regions.{registry, view}
 use Rattle.world.specs.Sound.{states, SoundAt}
@@ -45,15 +44,6 @@ pairs_counted :
     (c : After-keep_absent-absent)
     → length (take c.keep_absent-absent.result c.keep_absent-absent.new.pairs) ≡ c.keep_absent-absent.result
 pairs_counted c = length-take-le _ c.keep_absent-absent.new.pairs (search rules)
-
-pub state_at-requires : goal.state_at-requires
-state_at-requires c =
-    let (sound, inside) = c.requires in
-    (ready_at _ _ sound, omega (arith, sound.registered_fit))
-
-pub keep_absent-absent-requires-clause-ready : goal.keep_absent-absent-requires-clause-ready
-keep_absent-absent-requires-clause-ready c =
-    let (sound, inside) = c.requires in (ready_at _ _ sound, sound.logged_fit, search rules)
 
 pub revoke_listed-requires : goal.revoke_listed-requires
 revoke_listed-requires c =
