@@ -21,7 +21,7 @@ use world::Numbers;
 use world::head::{EPOCH, REGISTERED};
 
 /// Whether the log has the token's pair: 1 or 0.
-#[tactic(auto, unfolding(crate::specs::Calls::is_revoked_out, steps::specs::Enter::on_world))]
+#[tactic(auto, using(revocation_steps::proofs::Pairs::token_pair), unfolding(crate::specs::Calls::is_revoked_out, steps::specs::Enter::on_world))]
 pub fn is_revoked(mem: &[u64], token: CapabilityToken) -> Result<Done, Refused>
     ensures { told result ≡ is_revoked_out mem.now token.0 }
 {
@@ -40,7 +40,6 @@ pub fn epoch(mem: &[u64]) -> Result<Done, Refused>
 }
 
 // The ids under place r, breadth first, to the front of the area.
-#[tactic(auto, unfolding(steps::specs::Replies::into_area, base::specs::Choose::when))]
 fn list_under(mem: &[u64], d: Numbers, r: usize, area: &mut [u64]) -> Result<Done, Refused>
     requires { SoundAt d mem.now × (r < registered_of mem.now) }
     ensures { record { reply = told result; area = area.new }
@@ -57,7 +56,7 @@ fn list_under(mem: &[u64], d: Numbers, r: usize, area: &mut [u64]) -> Result<Don
 
 /// All descendants of an id, breadth first, to the front of the area; the value is how many. 21 for an id of more than 48 bits, or an area
 /// that is too short for them.
-#[tactic(auto, unfolding(crate::specs::Calls::descendants_out, steps::specs::Enter::on_world, base::specs::Choose::when))]
+#[tactic(auto, using(crate::proofs::Listing::none_under), unfolding(crate::specs::Calls::descendants_out, steps::specs::Enter::on_world, base::specs::Choose::when))]
 pub fn get_derivation_tree(mem: &[u64], id: u64, area: &mut [u64]) -> Result<Done, Refused>
     ensures { record { reply = told result; area = area.new } ≡ descendants_out mem.now id area.old }
 {

@@ -1,5 +1,5 @@
 -- A revocation keeps a sound memory sound, with its numbers, its length and every word past the regions, whatever it answers.
-use Rattle.std.proofs.Common.{List, [], ◌∷◌, ℕ, zero, suc, ◌^◌, ◌≤◌, ◌<◌, arith, get_or}
+use Rattle.std.proofs.Common.{List, [], ◌∷◌, ◌≡◌, ℕ, zero, suc, ◌^◌, ◌≤◌, ◌<◌, arith, get_or}
 use Rattle.revocation.specs.Log.{pair_of}
 use Rattle.revocation.specs.LogLaws.{absent_exactly, absent_differ, absent_pairs}
 use Rattle.revocation_steps.specs.Revocation.{log_of, log_step}
@@ -8,7 +8,8 @@ use Rattle.revocation_steps.proofs.laws.LogSteps.{log_step_kept}
 use Rattle.revocation_steps.proofs.Pairs.{pair_coded}
 use Rattle.steps.proofs.laws.Kept.{Kept, kept_refl, kept_trans}
 use Rattle.steps.proofs.laws.RegistrySteps.{add_step_kept}
-use Rattle.steps.specs.Steps.{add_step}
+use Rattle.steps.proofs.laws.SpaceSteps.{lookup_step_kept}
+use Rattle.steps.specs.Steps.{add_step, lookup_step}
 use Rattle.token.specs.Token.{id_of, generation_of}
 use Rattle.world.specs.Numbers.{logged_of, epoch_word}
 use Rattle.world.specs.Sound.{SoundAt}
@@ -42,3 +43,8 @@ module _ (d : Numbers) (mem : List ℕ) (sound : SoundAt d mem) (token : ℕ) wh
       token_leaves d mem (Kept d mem) (kept_refl d mem sound) token time listed
       (λ inside fits. revoke_step_kept d mem sound _ inside fits time listed)
       joined_kept
+
+-- So does a lookup before it.
+pub looked_up_sound :
+    (d : Numbers) (mem after : List ℕ) (s token : ℕ) → after ≡ lookup_step d s token mem → SoundAt d mem → s < d.spaces → SoundAt d after
+looked_up_sound d mem after s token leaves sound there = rw leaves (lookup_step_kept d mem sound s there token).sound

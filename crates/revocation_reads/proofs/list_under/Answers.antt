@@ -1,5 +1,7 @@
 -- The places under r are all of its descent but the first, r itself: where the area is long enough, their ids are written to it.
 use Rattle.std.proofs.Common.{rules, List, [], ◌∷◌, ◌≡◌, refl, sym, ap, ◌∙◌, ℕ, zero, suc, ◌-◌, ◌<◌, ◌≤◌, arith, lt-ltb, length, take, drop, length-drop, length-take-le}
+use Rattle.std.proofs.lemmas.Result.{err_from_is_err_and}
+use Rattle.std.proofs.lemmas.Grind.{common_steps}
 use Rattle.std.proofs.Math.Seq.{take-nil}
 use Rattle.answers.specs.Answer.{BadField}
 use Rattle.base.specs.Written.{written}
@@ -108,8 +110,12 @@ descend-count-requires-clause-ready c =
 pub overflow_sub-count : goal.overflow_sub-count
 overflow_sub-count c = search under_laws
 
-pub returns-then-area-count : goal.returns-then-area-count
-returns-then-area-count c = search under_laws
+pub returns-in_err : goal.returns-in_err
+returns-in_err c =
+    let (none, told) = c.from_residual.ensures in
+    let (refused, is, unvisited) = err_from_is_err_and c.from_residual.result told in
+    let at = finds _ _ _ _ _ c.requires (search rules) (c.descend-count.ensures.order_after, c.descend-count.ensures.all_below) in
+    rw (is, unvisited) (grind (arith, common_steps, too_short _ _ _ _ _ at _ c.if-area-count.true))
 
 pub slice_bounds-ids_at-count : goal.slice_bounds-ids_at-count
 slice_bounds-ids_at-count c = search under_laws

@@ -1,0 +1,2 @@
+-- What the proofs of `revocation_reads` share.
+pub mod Listing
