@@ -1,2 +1,3 @@
 -- What the proofs of `notification_calls` share.
 pub mod Noticing
+pub mod Counting

@@ -1,36 +1,21 @@
--- Entered, an area too short for the notices of the pid's queue is refused; else they are copied to it.
-use Rattle.std.proofs.Common.{arith}
-use Rattle.steps.proofs.Entering.{world_sound}
-use Rattle.notification_calls.specs.Calls.{peek_out}
-use Rattle.notification_calls.proofs.Noticing.{few_for, noticing}
+-- The area is too short for the notices of the pid's queue, or long enough.
+use Rattle.std.proofs.Common.{◌≡◌, sym, ◌∙◌, ◌*◌, ◌≤◌, arith, length, Ok}
+use Rattle.std.proofs.lemmas.Grind.{common_steps}
+use Rattle.std.proofs.lemmas.Result.{err_from_is_err_and}
+use Rattle.steps.specs.Enter.{entered_world}
+use Rattle.notification_calls.proofs.Noticing.{peek_short, peek_fits}
 use Rattle.notification_calls.proofs.notices.peek_notifications.Goals as goal
 
-pub queue_for-q-requires : goal.queue_for-q-requires
-unfolding peek_out
-queue_for-q-requires c = search noticing
+pub returns-in_err : goal.returns-in_err
+returns-in_err c =
+    let (refused, is, unvisited) = err_from_is_err_and c.from_residual-in_err.result c.from_residual-in_err.ensures.1 in
+    let good : entered_world c.args.mem.now ≡ Ok c.in_ok-d.d = sym c.enter_world.ensures.value ∙ c.in_ok-d.was in
+    let short = peek_short _ _ c.args.area.now _ good _ _ c.queue_for-q.ensures.0 c.count_for-count.ensures c.if-area-count.true in
+    rw (is, unvisited) (grind (arith, common_steps, short))
 
-pub count_for-count-requires : goal.count_for-count-requires
-unfolding peek_out
-count_for-count-requires c = search noticing
-
-pub overflow_mul-count : goal.overflow_mul-count
-unfolding peek_out
-overflow_mul-count c =
-    let sound = world_sound _ _ c.enter_world.ensures _ c.in-Good.is in
-    omega (arith, c.count_for-count.ensures, few_for _ _ c.queue_for-q.result sound)
-
-pub returns-then-area-count : goal.returns-then-area-count
-unfolding peek_out
-returns-then-area-count c = search noticing
-
-pub copy_for-requires : goal.copy_for-requires
-unfolding peek_out
-copy_for-requires c = search noticing
-
-pub returns-in-Refused : goal.returns-in-Refused
-unfolding peek_out
-returns-in-Refused c = search noticing
-
-pub returns-else-area-count : goal.returns-else-area-count
-unfolding peek_out
-returns-else-area-count c = search noticing
+pub returns : goal.returns
+returns c =
+    let good : entered_world c.args.mem.now ≡ Ok c.in_ok-d.d = sym c.enter_world.ensures.value ∙ c.in_ok-d.was in
+    let room : 3 * c.count_for-count.result ≤ length c.args.area.now = grind (arith, common_steps) in
+    let fits = peek_fits _ _ c.args.area.now _ good _ _ c.queue_for-q.ensures.0 c.count_for-count.ensures room in
+    grind (arith, common_steps, fits)
