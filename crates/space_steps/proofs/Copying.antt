@@ -8,6 +8,7 @@ use Rattle.space.proofs.laws.Copied.{replacement_copies, replaced_copies, replac
 use Rattle.table.specs.Insert.{Table, holds, gathered}
 use Rattle.world.specs.declared.Numbers.{Numbers}
 use Rattle.steps.specs.Ready.{Ready}
+use Rattle.steps.proofs.laws.Ready.{ready_space}
 use Rattle.steps.specs.Steps.{space_of, copied_of}
 
 module _ (d : Numbers) (mem : List ℕ) (target source : ℕ) (ready : Ready d mem) (there : target < d.spaces) (here : source < d.spaces)
@@ -15,10 +16,10 @@ module _ (d : Numbers) (mem : List ℕ) (target source : ℕ) (ready : Ready d m
     (whole : length zeros ≡ 2048) (filled : holds kept count ≡ gathered (slot_words from) 0 (table_of from).slots (holds zeros 0))
   where
     s : SpaceOf d.most from
-    s = rw from_is (ready.spaces source here)
+    s = rw from_is (ready_space d mem ready source here)
 
     t : SpaceOf d.most to
-    t = rw to_is (ready.spaces target there)
+    t = rw to_is (ready_space d mem ready target there)
 
     pub replace_asks : (count ≤ 256) × (words_for count ≤ length to)
     replace_asks = replace_fits d.most from to s t kept zeros count whole filled

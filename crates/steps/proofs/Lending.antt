@@ -7,6 +7,7 @@ use Rattle.world.specs.Views.{lent_view, lent_region, queue_words}
 use Rattle.world.specs.declared.Numbers.{Numbers}
 use Rattle.steps.specs.Ready.{Fits, Ready}
 use Rattle.steps.specs.Steps.{space_of}
+use Rattle.steps.proofs.laws.Ready.{ready_space}
 
 module _ (d : Numbers) (r : Region) (mem : List ℕ) (start end : ℕ) (spans : Spans d r start end) where
   pub lent : take (end - start) (drop start mem) ≡ view d r mem
@@ -25,7 +26,7 @@ module _ (d : Numbers) (r : Region) (mem : List ℕ) (start end : ℕ) (spans : 
 pub lent_in_range : (d : Numbers) (s : ℕ) (mem : List ℕ) (start end : ℕ) → Spans d (space s) start end → Ready d mem → s < d.spaces
     → InRange (take (end - start) (drop start mem))
 lent_in_range d s mem start end spans ready l =
-    rw (lent d (space s) mem start end spans) (in_range d.most (space_of d s mem) (ready.spaces s l))
+    rw (lent d (space s) mem start end spans) (in_range d.most (space_of d s mem) (ready_space d mem ready s l))
 
 pub queue_long : (d : Numbers) (q : ℕ) (mem : List ℕ) (start end : ℕ) → Spans d (queue q) start end → Fits d mem → q < d.queues
     → 771 ≤ length (take (end - start) (drop start mem))

@@ -1,6 +1,6 @@
 -- What a step asks of the memory. Every sound memory has it, and every step keeps it.
-use Rattle.std.specs.Prelude.{ℕ, ◌+◌, ◌<◌, ◌≤◌, List, length}
-use Rattle.space.specs.Sound.{SpaceOf}
+use Rattle.std.specs.Prelude.{◌≡◌, true, ℕ, ◌+◌, ◌<◌, ◌≤◌, List, length}
+use Rattle.space.specs.Sound.{space_test}
 use Rattle.world.specs.Numbers.{InRange, registered_of, recycled_of}
 use Rattle.revocation.specs.Words.{first_of, length_of}
 use Rattle.world.specs.Regions.{space, queue, length_for, view}
@@ -16,7 +16,7 @@ pub record Ready (d : Numbers) (mem : List ℕ) : Type 0 where
   pub head : 16 ≤ length mem
   pub registered_fit : registered_of mem ≤ d.places
   pub recycled_fit : recycled_of mem ≤ d.places + 1
-  pub spaces : (s : ℕ) → s < d.spaces → SpaceOf d.most (view d (space s) mem)
+  pub spaces_tested : (s : ℕ) → s < d.spaces → space_test d.most (view d (space s) mem) ≡ true
 
 -- What a notice asks: every queue can take one more.
 pub record QueuesReady (d : Numbers) (mem : List ℕ) : Type 0 where

@@ -3,6 +3,7 @@ use Rattle.std.proofs.Common.{ℕ, ◌<◌, ◌≤◌, List, arith}
 use Rattle.std.proofs.Math.Decide.{dec_lt}
 use Rattle.std.proofs.Math.Logic.{by_cases}
 use Rattle.space.specs.Sound.{SpaceOf}
+use Rattle.space.proofs.laws.Tests.{space_exactly}
 use Rattle.world.specs.Layout.{inside}
 use Rattle.world.specs.Regions.{head, space, width_of, length_for, start_of, view}
 use Rattle.world.specs.Sound.{SoundAt, lengths}
@@ -13,6 +14,15 @@ use Rattle.steps.specs.Ready.{Ready, QueuesReady}
 pub head_fits : (d : Numbers) → 16 ≤ length_for d
 unfolding start_of
 head_fits d = omega (arith, inside d head tt)
+
+-- Each space of a ready memory is sound, of its size.
+pub ready_space : (d : Numbers) (mem : List ℕ) → Ready d mem → (s : ℕ) → s < d.spaces → SpaceOf d.most (view d (space s) mem)
+unfolding width_of
+ready_space d mem ready s l = record {
+  sound = (space_exactly d.most (view d (space s) mem)).0 (ready.spaces_tested s l);
+  size = length_view d (space s) mem l ready.fits.long_enough;
+  range = omega (arith, ready.fits.in_range.most);
+}
 
 module _ (d : Numbers) (mem : List ℕ) (sound : SoundAt d mem) where
   pub is_space : (s : ℕ) → s < d.spaces → SpaceOf d.most (view d (space s) mem)
@@ -29,7 +39,7 @@ module _ (d : Numbers) (mem : List ℕ) (sound : SoundAt d mem) where
     head = omega (arith, head_fits d, sound.long_enough);
     registered_fit = sound.registered_fit;
     recycled_fit = sound.recycled_fit;
-    spaces = is_space;
+    spaces_tested = λ s l. (space_exactly d.most (view d (space s) mem)).1 (sound.spaces s l);
   }
 
   pub queues_ready_at : QueuesReady d mem

@@ -15,6 +15,7 @@ use Rattle.registry.specs.UnregisteringLaws.{length_unregistered}
 use Rattle.space.specs.Change.{insert_out}
 use Rattle.space.specs.Lookup.{counted}
 use Rattle.space.specs.Sound.{SpaceOf}
+use Rattle.space.proofs.laws.Tests.{space_exactly}
 use Rattle.space.proofs.laws.Kept.{lookup_keeps, insert_keeps}
 use Rattle.table.specs.Slots.{id_of}
 use Rattle.table.specs.declared.CapabilityEntry.{CapabilityEntry}
@@ -26,6 +27,7 @@ use Rattle.world.specs.declared.Numbers.{Numbers}
 use Rattle.steps.specs.Ready.{Ready}
 use Rattle.steps.specs.Steps.{space_of, lookup_step, hold_step, insert_step, taken_id, take_step, register_step, list_step, unregister_step, collect_step, add_step}
 use Rattle.steps.proofs.ChangingEntries.{still_fits}
+use Rattle.steps.proofs.laws.Ready.{ready_space}
 use Rattle.steps.proofs.laws.RegistryChanged.{registry_in, RegistryChanged, registry_changed, word_changed, only_registry_changed}
 use Rattle.steps.proofs.laws.SpaceChanged.{other_space}
 use Rattle.steps.proofs.laws.Taking.{take_by_cases}
@@ -56,7 +58,7 @@ module _ (d : Numbers) (mem : List ℕ) (ready : Ready d mem) where
     head = rw same ready.head;
     registered_fit = registered;
     recycled_fit = recycled;
-    spaces = spaces;
+    spaces_tested = λ s l. (space_exactly d.most (space_of d s after)).1 (spaces s l).sound;
   }
 
   -- A space changes,
@@ -64,7 +66,7 @@ module _ (d : Numbers) (mem : List ℕ) (ready : Ready d mem) where
       (s : ℕ) → s < d.spaces → (f : List ℕ → List ℕ) → SpaceOf d.most (f (space_of d s mem)) → Stays d mem (on_region d (space s) f mem)
   space_stays s valid f keeps =
       let ch : Change d (space s) f mem =
-      record { valid = valid; long = ready.fits.long_enough; kept = keeps.size ∙ sym (ready.spaces s valid).size } in
+      record { valid = valid; long = ready.fits.long_enough; kept = keeps.size ∙ sym (ready_space d mem ready s valid).size } in
       let same : (i : ℕ) → i < 16 → get_or (on_region d (space s) f mem) i 0 ≡ get_or mem i 0 = head_kept d (space s) f mem ch refl in
       record {
         ready =
@@ -74,7 +76,7 @@ module _ (d : Numbers) (mem : List ℕ) (ready : Ready d mem) where
             (λ k l.
             by_cases (ℕ_discrete k s)
             (λ here. rw (here, view_same d (space s) f mem ch) keeps)
-            (λ other. rw (other_space d s f mem ch k l other) (ready.spaces k l)));
+            (λ other. rw (other_space d s f mem ch k l other) (ready_space d mem ready k l)));
         head = same;
       }
 
@@ -86,7 +88,7 @@ module _ (d : Numbers) (mem : List ℕ) (ready : Ready d mem) where
     ready =
         again after changed.apart.same_length (still_few 11 d.places (omega arith) registered ready.registered_fit)
         (still_few 12 (d.places + 1) (omega arith) recycled ready.recycled_fit)
-        (λ s l. rw (changed.same_space s l) (ready.spaces s l));
+        (λ s l. rw (changed.same_space s l) (ready_space d mem ready s l));
     word = changed.new_word;
     others = changed.same_word;
   }
@@ -138,7 +140,7 @@ module _ (d : Numbers) (mem : List ℕ) (ready : Ready d mem) (s : ℕ) (valid :
   sp = space_of d s mem
 
   of_space : SpaceOf d.most sp
-  of_space = ready.spaces s valid
+  of_space = ready_space d mem ready s valid
 
   pub lookup_stays : (token : ℕ) → Stays d mem (lookup_step d s token mem)
   unfolding lookup_step
