@@ -13,7 +13,7 @@ impl<'a> Space<'a> {
         ensures { holds scratch.new result
             ≡ gathered (slot_words self.now.words.now) 0 (table_of self.now.words.now).slots (holds scratch.old 0) }
     {
-        table::gather(&self.words[TABLE..], self.table_capacity(), scratch)
+        self.table().gather(scratch)
     }
 }
 

@@ -17,7 +17,7 @@ impl<'a> Space<'a> {
     pub fn search_id(&self, id: u64) -> Search
         ensures { result ≡ search_id self.now.words.now id }
     {
-        table::find(&self.words[TABLE..], self.table_capacity(), id)
+        self.table().find(id)
     }
 
     fn entry_at(&self, i: usize) -> CapabilityEntry
@@ -76,7 +76,7 @@ impl<'a> Space<'a> {
         ensures { result
             ≡ nth_of (live_entries (slot_words self.now.words.now) 0 (table_of self.now.words.now).slots) n }
     {
-        table::nth_entry(&self.words[TABLE..], self.table_capacity(), n)
+        self.table().nth_entry(n)
     }
 }
 

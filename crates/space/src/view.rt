@@ -1,10 +1,11 @@
 // A space to be read: its words, in range, and what stands in its first eight.
 ghost use Rattle.std.specs.Prelude.{◌≡◌};
-ghost use Rattle.space.specs.Words.{quota_of, generation_of, hits_of, misses_of, table_of, InRange};
+ghost use Rattle.space.specs.Words.{quota_of, generation_of, hits_of, misses_of, table_of, slot_words, InRange};
 ghost use Rattle.space.specs.Counters.{counters_of};
 
 use super::counters::Counters;
-use super::words::{GENERATION, HITS, LIVE, MISSES, QUOTA, SLOTS};
+use super::words::{GENERATION, HITS, LIVE, MISSES, QUOTA, SLOTS, TABLE};
+use table::Table;
 
 #[derive(Clone, Copy)]
 pub struct Space<'a> {
@@ -52,6 +53,16 @@ impl<'a> Space<'a> {
         ensures { result ≡ (table_of self.now.words.now).slots }
     {
         self.words[SLOTS] as usize
+    }
+
+    // The space's table.
+    pub fn table(&self) -> Table<'a>
+        ensures { (result.words.now ≡ slot_words self.now.words.now) × (result.slots ≡ (table_of self.now.words.now).slots) }
+    {
+        Table {
+            words: &self.words[TABLE..],
+            slots: self.table_capacity(),
+        }
     }
 
     // The current number of capabilities; the source's `total_caps` is the same word.

@@ -4,24 +4,26 @@ ghost use Rattle.table.specs.Insert.{slots_for, live_entries, scratch_entries, l
 ghost use Rattle.table.specs.Copy.{nth_of, insert_all};
 
 use super::insert::{crowded, make_room, place};
+use super::view::Table;
 use super::words::{entry_at, slot_at};
 use super::{CapTable, CapabilityEntry, Inserted, Slot};
 
-// The n-th live entry in slot order, n from 0.
-pub fn nth_entry(words: &[u64], slots: usize, n: usize) -> Option<CapabilityEntry>
-    requires { (slots ≤ 512) × (4 * slots ≤ length words.now) }
-    ensures { result ≡ nth_of (live_entries words.now 0 slots) n }
-{
-    let mut past = n;
-    for i in 0..slots {
-        if let Slot::Full(entry) = slot_at(words, i) {
-            if past == 0 {
-                return Some(entry);
+impl<'a> Table<'a> {
+    // The n-th live entry in slot order, n from 0.
+    pub fn nth_entry(&self, n: usize) -> Option<CapabilityEntry>
+        ensures { result ≡ nth_of (live_entries self.now.words.now 0 self.now.slots) n }
+    {
+        let mut past = n;
+        for i in 0..self.slots {
+            if let Slot::Full(entry) = slot_at(self.words, i) {
+                if past == 0 {
+                    return Some(entry);
+                }
+                past -= 1;
             }
-            past -= 1;
         }
+        None
     }
-    None
 }
 
 // One entry of a copy: inserted with its uses zeroed, its moves added.

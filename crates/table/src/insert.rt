@@ -4,7 +4,7 @@ ghost use Rattle.base.specs.Below.{one};
 ghost use Rattle.table.specs.Slots.{id_of, is_removed};
 ghost use Rattle.table.specs.Insert.{crowded, slots_for, room_for, emptied, holds, gathered, scratch_entries, live_entries, place_all, rebuilt, enlarged, placed, insert_new, leaves, Insertable, Placeable};
 
-use super::walk::free_for;
+use super::view::Table;
 use super::words::{entry_at, is_kind, put_entry, slot_at};
 use super::{CapTable, CapabilityEntry, Inserted, Kind, Slot};
 
@@ -60,17 +60,19 @@ fn gather_slot(words: &[u64], i: usize, scratch: &mut [u64; 2048], count: usize)
     count
 }
 
-// The live entries, in slot order, into the scratch.
-pub fn gather(words: &[u64], slots: usize, scratch: &mut [u64; 2048]) -> usize
-    requires { (slots ≤ 512) × (4 * slots ≤ length words.now) }
-    ensures result_after { holds scratch.new result ≡ gathered words.now 0 slots (holds scratch.old 0) }
-    ensures upper_bound { result ≤ slots }
-{
-    let mut count = 0;
-    for i in 0..slots {
-        count = gather_slot(words, i, scratch, count);
+impl<'a> Table<'a> {
+    // The live entries, in slot order, into the scratch.
+    pub fn gather(&self, scratch: &mut [u64; 2048]) -> usize
+        ensures result_after { holds scratch.new result
+            ≡ gathered self.now.words.now 0 self.now.slots (holds scratch.old 0) }
+        ensures upper_bound { result ≤ self.now.slots }
+    {
+        let mut count = 0;
+        for i in 0..self.slots {
+            count = gather_slot(self.words, i, scratch, count);
+        }
+        count
     }
-    count
 }
 
 // The first `count` entries of the scratch are placed one after the other.
@@ -80,7 +82,7 @@ fn place_all(words: &mut [u64], slots: usize, scratch: &[u64; 2048], count: usiz
 {
     for i in 0..count {
         let entry = entry_at(scratch, i);
-        let at = free_for(words, slots, id_of(entry));
+        let at = Table { words, slots }.free_for(id_of(entry));
         put_entry(words, at, entry);
     }
 }
@@ -97,7 +99,7 @@ fn rebuild(words: &mut [u64], slots: usize, n: usize) -> usize
         return 0;
     }
     let mut scratch = [0u64; 2048];
-    let count = gather(words, slots, &mut scratch);
+    let count = Table { words, slots }.gather(&mut scratch);
     empty_slots(words, n);
     place_all(words, n, &scratch, count);
     count
@@ -135,7 +137,11 @@ pub fn place(words: &mut [u64], s: Inserted, entry: CapabilityEntry) -> Inserted
     ensures { leaves words.new result ≡ placed (leaves words.old s) entry }
 {
     let t = s.table;
-    let at = free_for(words, t.slots, id_of(entry));
+    let table = Table {
+        words,
+        slots: t.slots,
+    };
+    let at = table.free_for(id_of(entry));
     let tombstones = marks_left(words, at, t.tombstones);
     put_entry(words, at, entry);
     Inserted {

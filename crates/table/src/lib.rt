@@ -7,14 +7,15 @@
 mod copy;
 mod insert;
 mod remove;
+mod view;
 mod walk;
 mod words;
 
-pub use copy::{copy_from, nth_entry};
-pub use insert::{gather, id_of, insert_new, slots_for};
+pub use copy::copy_from;
+pub use insert::{id_of, insert_new, slots_for};
 pub use remove::remove_at;
 use token::{CapabilityToken, Rights};
-pub use walk::{find, get};
+pub use view::Table;
 pub use words::{entry_at, id_at, is_kind, kind_at, slot_at};
 
 // A single capability entry.

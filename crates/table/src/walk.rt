@@ -4,6 +4,7 @@ ghost use Rattle.base.specs.Choose.{both};
 ghost use Rattle.table.specs.Slots.{id_at, is_live};
 ghost use Rattle.table.specs.Walk.{home_of, search, search_from, got, free_for};
 
+use super::view::Table;
 use super::words::{entry_at, id_at, is_kind};
 use super::{CapabilityEntry, Kind, Search};
 
@@ -40,86 +41,86 @@ fn has_id(words: &[u64], i: usize, id: u64) -> bool
     is_kind(words, i, Kind::Full) && id_at(words, i) == id
 }
 
-// The search over n slots from slot `from` on.
-#[tactic(auto, using(crate::proofs::CodeWalk::find_laws))]
-fn find_from(words: &[u64], slots: usize, id: u64, from: usize, n: usize) -> Search
-    requires { (slots ≤ 512) × (4 * slots ≤ length words.now) × (from < slots) × (n ≤ slots) }
-    ensures { (result ≡ search_from words.now slots id from n) × (result.visits ≤ n) }
-{
-    let mut i = from;
-    for passed in 0..n {
-        if has_id(words, i, id) {
-            return Search {
-                found: Some(i),
-                visits: passed + 1,
-            };
+impl<'a> Table<'a> {
+    // The search over n slots from slot `from` on.
+    #[tactic(auto, using(crate::proofs::CodeWalk::find_laws))]
+    fn find_from(&self, id: u64, from: usize, n: usize) -> Search
+        requires { (from < self.now.slots) × (n ≤ self.now.slots) }
+        ensures { (result ≡ search_from self.now.words.now self.now.slots id from n) × (result.visits ≤ n) }
+    {
+        let mut i = from;
+        for passed in 0..n {
+            if has_id(self.words, i, id) {
+                return Search {
+                    found: Some(i),
+                    visits: passed + 1,
+                };
+            }
+            if is_kind(self.words, i, Kind::Empty) {
+                return Search {
+                    found: None,
+                    visits: passed + 1,
+                };
+            }
+            i = next(i, self.slots);
         }
-        if is_kind(words, i, Kind::Empty) {
+        Search {
+            found: None,
+            visits: n,
+        }
+    }
+
+    // Most searches end at home, so home is looked at before any loop.
+    pub fn find(&self, id: u64) -> Search
+        ensures { result ≡ search self.now.words.now self.now.slots id }
+    {
+        if self.slots == 0 {
             return Search {
                 found: None,
-                visits: passed + 1,
+                visits: 0,
             };
         }
-        i = next(i, slots);
-    }
-    Search {
-        found: None,
-        visits: n,
-    }
-}
-
-// Most searches end at home, so home is looked at before any loop.
-pub fn find(words: &[u64], slots: usize, id: u64) -> Search
-    requires { (slots ≤ 512) × (4 * slots ≤ length words.now) }
-    ensures { result ≡ search words.now slots id }
-{
-    if slots == 0 {
-        return Search {
-            found: None,
-            visits: 0,
-        };
-    }
-    let home = home(id, slots);
-    if has_id(words, home, id) {
-        return Search {
-            found: Some(home),
-            visits: 1,
-        };
-    }
-    if is_kind(words, home, Kind::Empty) {
-        return Search {
-            found: None,
-            visits: 1,
-        };
-    }
-    let rest = find_from(words, slots, id, next(home, slots), slots - 1);
-    Search {
-        visits: rest.visits + 1,
-        ..rest
-    }
-}
-
-// The entry of the id, where a search finds it.
-pub fn get(words: &[u64], slots: usize, id: u64) -> Option<CapabilityEntry>
-    requires { (slots ≤ 512) × (4 * slots ≤ length words.now) }
-    ensures { result ≡ got words.now slots id }
-{
-    let i = find(words, slots, id).found?;
-    Some(entry_at(words, i))
-}
-
-// The first slot that is not live on the walk of the id; where all are live, which no caller allows, its home.
-#[tactic(auto, using(crate::proofs::CodeWalk::free_laws))]
-pub fn free_for(words: &[u64], slots: usize, id: u64) -> usize
-    requires { (0 < slots) × (slots ≤ 512) × (4 * slots ≤ length words.now) }
-    ensures { (result ≡ free_for words.now slots id) × (result < slots) }
-{
-    let mut i = home(id, slots);
-    for _ in 0..slots {
-        if !is_kind(words, i, Kind::Full) {
-            return i;
+        let home = home(id, self.slots);
+        if has_id(self.words, home, id) {
+            return Search {
+                found: Some(home),
+                visits: 1,
+            };
         }
-        i = next(i, slots);
+        if is_kind(self.words, home, Kind::Empty) {
+            return Search {
+                found: None,
+                visits: 1,
+            };
+        }
+        let rest = self.find_from(id, next(home, self.slots), self.slots - 1);
+        Search {
+            visits: rest.visits + 1,
+            ..rest
+        }
     }
-    i
+
+    // The entry of the id, where a search finds it.
+    pub fn get(&self, id: u64) -> Option<CapabilityEntry>
+        ensures { result ≡ got self.now.words.now self.now.slots id }
+    {
+        let i = self.find(id).found?;
+        Some(entry_at(self.words, i))
+    }
+
+    // The first slot that is not live on the walk of the id; where all are live, which no caller allows, its home.
+    #[tactic(auto, using(crate::proofs::CodeWalk::free_laws))]
+    pub fn free_for(&self, id: u64) -> usize
+        requires { 0 < self.now.slots }
+        ensures { (result ≡ free_for self.now.words.now self.now.slots id) × (result < self.now.slots) }
+    {
+        let mut i = home(id, self.slots);
+        for _ in 0..self.slots {
+            if !is_kind(self.words, i, Kind::Full) {
+                return i;
+            }
+            i = next(i, self.slots);
+        }
+        i
+    }
 }

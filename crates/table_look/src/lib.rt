@@ -8,7 +8,7 @@ ghost use Rattle.table.specs.Slots.{kind_at, is_kind};
 ghost use Rattle.table.specs.Insert.{slots_for};
 ghost use Rattle.table.specs.Sound.{ends_here, coded_at, coded_test, capacity_test, agree_test, room_test, unused_test, most_test, found_test, live_slots, sound_test};
 
-use table::{CapTable, Kind, find, id_at, is_kind, kind_at, slots_for};
+use table::{CapTable, Kind, Table, id_at, is_kind, kind_at, slots_for};
 
 // 0 slots or a power of two from 8 to the most that there can be.
 fn is_capacity(slots: usize, most: usize) -> bool
@@ -32,11 +32,11 @@ fn counts_fit(t: CapTable, most: usize) -> bool
 }
 
 // The search of the id in slot i ends at slot i.
-fn is_found(words: &[u64], slots: usize, i: usize) -> bool
-    requires { (slots ≤ 512) × (4 * slots ≤ length words.now) × (i < slots) }
-    ensures { result ≡ ends_here words.now slots i }
+fn is_found(table: &Table<'_>, i: usize) -> bool
+    requires { i < table.now.slots }
+    ensures { result ≡ ends_here table.now.words.now table.now.slots i }
 {
-    find(words, slots, id_at(words, i)).found == Some(i)
+    table.find(id_at(table.words, i)).found == Some(i)
 }
 
 // 1 for a slot of that kind, 0 for any other.
@@ -75,13 +75,12 @@ fn kinds_sound(words: &[u64], t: CapTable, live: &mut [u16; 512]) -> bool
 }
 
 // The search of the id in each of these slots ends at that slot.
-fn all_found(words: &[u64], slots: usize, live: &[u16]) -> bool
-    requires slots_bound { (slots ≤ 512) × (4 * slots ≤ length words.now) }
-    requires slots_value { all (length live.now) (λ j. ltb (get_or live.now j 0) slots) ≡ true }
-    ensures { result ≡ all (length live.now) (λ j. ends_here words.now slots (get_or live.now j 0)) }
+fn all_found(table: &Table<'_>, live: &[u16]) -> bool
+    requires { all (length live.now) (λ j. ltb (get_or live.now j 0) table.now.slots) ≡ true }
+    ensures { result ≡ all (length live.now) (λ j. ends_here table.now.words.now table.now.slots (get_or live.now j 0)) }
 {
     for i in live {
-        if !is_found(words, slots, *i as usize) {
+        if !is_found(table, *i as usize) {
             return false;
         }
     }
@@ -96,7 +95,11 @@ fn slots_sound(words: &[u64], t: CapTable) -> bool
         (both (agree_test words.now t) (found_test words.now t.slots)) }
 {
     let mut live = [0u16; 512];
-    kinds_sound(words, t, &mut live) && all_found(words, t.slots, &live[..t.full])
+    let table = Table {
+        words,
+        slots: t.slots,
+    };
+    kinds_sound(words, t, &mut live) && all_found(&table, &live[..t.full])
 }
 
 // The capacity comes first: it keeps everything after it in range.

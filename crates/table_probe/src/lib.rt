@@ -10,7 +10,7 @@ ghost use Rattle.table.specs.Copy.{nth_of, insert_all};
 ghost use Rattle.table.specs.Sound.{sound_test};
 ghost use Rattle.table_probe.specs.Numbers.{counts_of, keeps, left, leaves, entry_of, entry_words, ended, answers, got_words, nth_words};
 
-use table::{CapTable, CapabilityEntry, copy_from, find, gather, get, insert_new, nth_entry, remove_at};
+use table::{CapTable, CapabilityEntry, Table, copy_from, insert_new, remove_at};
 use table_look::is_sound;
 use token::{CapabilityToken, Rights};
 
@@ -68,7 +68,7 @@ pub extern "C" fn table_probe_find(words: &[u64], slots: usize, id: u64) -> Ende
     requires { (slots ≤ 512) × (4 * slots ≤ length words.now) }
     ensures { result ≡ ended (search words.now slots id) }
 {
-    let s = find(words, slots, id);
+    let s = Table { words, slots }.find(id);
     Ended {
         at: s.found.unwrap_or(usize::MAX),
         visits: s.visits,
@@ -80,7 +80,7 @@ pub extern "C" fn table_probe_get(words: &[u64], slots: usize, id: u64, out: &mu
     requires { (slots ≤ 512) × (4 * slots ≤ length words.now) }
     ensures { answers result out.new ≡ got_words out.old (got words.now slots id) }
 {
-    put_got(get(words, slots, id), out)
+    put_got(Table { words, slots }.get(id), out)
 }
 
 #[unsafe(no_mangle)]
@@ -93,7 +93,7 @@ pub extern "C" fn table_probe_nth_entry(
     requires { (slots ≤ 512) × (4 * slots ≤ length words.now) }
     ensures { answers result out.new ≡ nth_words out.old (nth_of (live_entries words.now 0 slots) n) }
 {
-    put_got(nth_entry(words, slots, n), out)
+    put_got(Table { words, slots }.nth_entry(n), out)
 }
 
 #[unsafe(no_mangle)]
@@ -147,7 +147,7 @@ pub extern "C" fn table_probe_gather(
     requires { (slots ≤ 512) × (4 * slots ≤ length words.now) }
     ensures { holds scratch.new result ≡ gathered words.now 0 slots (holds scratch.old 0) }
 {
-    gather(words, slots, scratch)
+    Table { words, slots }.gather(scratch)
 }
 
 // A table of the scratch's first `count` entries, over whatever the words held: its second half.

@@ -5,4 +5,4 @@ use Rattle.table.specs.Sound.{ends_here}
 use Rattle.table_look.proofs.all_found.Given as goal
 
 abbrev pub invariant-loop-i : goal.invariant-loop-i
-invariant-loop-i l = all l.i-index (λ j. ends_here l.words l.slots (get_or l.live j 0)) ≡ true
+invariant-loop-i l = all l.i-index (λ j. ends_here l.table.words.now l.table.slots (get_or l.live j 0)) ≡ true

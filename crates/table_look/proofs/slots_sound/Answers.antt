@@ -73,8 +73,8 @@ slice_bounds-all_found-end c =
     let called = c.kinds_sound.ensures in sym
     (taken _ _ (omega arith) _ called.value c.if-kinds_sound.true _ called.live_after)
 
-pub all_found-requires-clause-slots_value : goal.all_found-requires-clause-slots_value
-all_found-requires-clause-slots_value c =
+pub all_found-requires : goal.all_found-requires
+all_found-requires c =
     let called = c.kinds_sound.ensures in below _ _ (omega arith) _ called.value c.if-kinds_sound.true _ called.live_after
 
 pub returns-then-kinds_sound : goal.returns-then-kinds_sound

@@ -7,7 +7,7 @@ use Rattle.table.specs.declared.CapabilityEntry.{CapabilityEntry}
 use Rattle.table.specs.declared.Slot.{Slot}
 use Rattle.table.specs.declared.Slot.TheVariants.{Full}
 use Rattle.table.proofs.CodeSlots.{Other, full_slot, other_slot}
-use Rattle.table.proofs.copy.nth_entry.Goals as goal
+use Rattle.table.proofs.view.Table.nth_entry.Goals as goal
 
 starts : (ws : List ℕ) (slots n : ℕ) → nth_of (live_entries ws 0 (slots - 0)) n ≡ nth_of (live_entries ws 0 slots) n
 starts ws slots n = ap (λ m. nth_of (live_entries ws 0 m) n) (sub-zero slots)

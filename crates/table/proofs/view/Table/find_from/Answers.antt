@@ -1,6 +1,6 @@
 use Rattle.std.proofs.Common.{rules}
 use Rattle.table.proofs.CodeWalk.{find_laws}
-use Rattle.table.proofs.walk.find_from.Goals as goal
+use Rattle.table.proofs.view.Table.find_from.Goals as goal
 
 pub loop-passed-init : goal.loop-passed-init
 loop-passed-init c = search find_laws

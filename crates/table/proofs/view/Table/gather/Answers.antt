@@ -1,5 +1,5 @@
 use Rattle.table.proofs.CodeRebuild.{gather_laws}
-use Rattle.table.proofs.insert.gather.Goals as goal
+use Rattle.table.proofs.view.Table.gather.Goals as goal
 
 pub loop-i-preserved : goal.loop-i-preserved
 loop-i-preserved c = search gather_laws

@@ -1,11 +1,11 @@
--- `table::walk::get` meets its contract: where the search found an id, the slot is below the slot count and its entry the answer.
+-- `table::view::Table::get` meets its contract: where the search found an id, the slot is below the slot count and its entry the answer.
 use Rattle.std.proofs.Common.{◌≡◌, ap, sym, ◌∙◌, List, ℕ, ◌<◌, arith, None, Some}
 use Rattle.table.specs.Slots.{entry_at}
 use Rattle.table.specs.Walk.{search as searched, got}
 use Rattle.table.specs.declared.CapabilityEntry.{CapabilityEntry}
 use Rattle.table.specs.declared.Search.{Search}
 use Rattle.table.proofs.laws.Exact.{search_at}
-use Rattle.table.proofs.walk.get.Goals as goal
+use Rattle.table.proofs.view.Table.get.Goals as goal
 
 entry : (ws : List ℕ) (slots id i : ℕ) (e : CapabilityEntry) (s : Search) → s ≡ searched ws slots id → s.found ≡ Some i → e ≡ entry_at ws i
     → Some e ≡ got ws slots id
