@@ -1,10 +1,11 @@
 -- The ways through the calls for notifications: what holds of each ending holds of the whole. And a drain answers what a peek answers.
-use Rattle.std.proofs.Common.{Bool, true, false, not, List, ◌⊎◌, inl, inr, ⊎_elim, ◌≡◌, refl, sym, ℕ, ◌^◌, ◌≤◌, ◌<◌, ltb-true, ltb-false, ltb, length}
+use Rattle.std.proofs.Common.{Bool, true, false, not, List, ◌⊎◌, inl, inr, ⊎_elim, ◌≡◌, refl, sym, ℕ, ◌^◌, ◌≤◌, ◌<◌, ltb-true, ltb-false, ltb, length, Result, Ok, Err}
 use Rattle.std.proofs.lemmas.Bool.{not-true}
-use Rattle.answers.specs.Answer.{BadField, PidTableFull, BadWorld}
+use Rattle.answers.specs.Answer.{Answer, BadField, PidTableFull, BadWorld}
+use Rattle.answers.specs.declared.Refusal.{Refusal}
 use Rattle.base.specs.Choose.{both, both_left, both_right, when}
 use Rattle.revocation_steps.specs.Revocation.{queue_for, free_queue, notify_step}
-use Rattle.steps.specs.Enter.{on_world}
+use Rattle.steps.specs.Enter.{entered_world, go_on, on_world}
 use Rattle.steps.specs.Replies.{Left, WithArea, done, refusal, refuse, Reply}
 use Rattle.base.specs.Cases.{when_by_cases, when_below, when_from}
 use Rattle.steps.proofs.laws.Entered.{world_by_cases}
@@ -61,13 +62,18 @@ module _ (mem : List ℕ) (pid id reason time : ℕ) (P : Left Reply → Type 0)
 
 -- ---- the notices of a pid
 
+-- The reply of what a call does, refused or by a test, is what is replied.
 replies :
-    {A : Type 0} (a b : Bool) (x y rest : Left A)
-    → (when a x (when b y rest)).reply ≡ when a x.reply (when b y.reply rest.reply)
+    (bad : Answer → Left WithArea) (test : Numbers → Bool) (short long : Numbers → Left WithArea) (seen : Result Numbers Refusal)
+    → (go_on bad (λ d. when (test d) (short d) (long d)) seen).reply
+    ≡ go_on (λ a. (bad a).reply) (λ d. when (test d) (short d).reply (long d).reply) seen
 unfolding when
-replies true b x y rest = refl
-replies false true x y rest = refl
-replies false false x y rest = refl
+replies bad test short long (Err why) = refl
+replies bad test short long (Ok numbers) = go (test numbers)
+  where
+    go : (b : Bool) → (when b (short numbers) (long numbers)).reply ≡ when b (short numbers).reply (long numbers).reply
+    go true = refl
+    go false = refl
 
 -- The area is too short for them.
 abbrev pub TooShort : List ℕ → ℕ → List ℕ → Type 0
@@ -105,4 +111,8 @@ module _ (mem : List ℕ) (pid : ℕ) (area : List ℕ) where
 
   pub drain_peeks : (drain_out mem pid area).reply ≡ peek_out mem pid area
   unfolding drain_out peek_out on_world
-  drain_peeks = replies _ _ _ _ _
+  drain_peeks =
+      replies (λ a. record { reply = record { reply = refusal a; area = area }; memory = mem })
+      (λ d. ltb (length area) (length (notices_for d mem (queue_for d mem pid))))
+      (λ d. record { reply = record { reply = refusal BadField; area = area }; memory = mem })
+      (λ d. record { reply = peeked d mem (queue_for d mem pid) area; memory = without d mem (queue_for d mem pid) }) (entered_world mem)
