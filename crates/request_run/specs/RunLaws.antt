@@ -1,8 +1,10 @@
 -- A run record by record: what each test decides, and that what is left to run, behind what is written, is the whole run.
 use Rattle.std.specs.Prelude.{◌≡◌, refl, ◌≢◌, Bool, true, false, List, ◌++◌, ℕ, suc, ◌+◌, ◌-◌, ◌*◌, ◌/◌, ◌^◌, ◌<◌, ◌≤◌, ltb, length}
 use Rattle.std.proofs.Common.{sym, ap, ◌∙◌, arith, eq-eqb, ne_eqb, lt-ltb, le-ltb}
-use Rattle.answers.specs.Number.{number_of}
-use Rattle.answers.specs.Answer.{Answer, Done, InvalidCapability, InsufficientRights, CapabilityRevoked, OutOfMemory, InvalidObject, PermissionDenied, AlreadyExists, NotFound, IdExhausted, QuotaExceeded, SpaceQuota, SpaceIds, BadSpace, BadField, RegistryFull, RecycleFull, LogFull, PidTableFull, BadWorld}
+use Rattle.answers.specs.Number.{number_of, number_of_refusal}
+use Rattle.answers.specs.Answer.{Answer, Done, Refuses}
+use Rattle.answers.specs.declared.Refusal.{Refusal}
+use Rattle.answers.specs.declared.Refusal.TheVariants.{InvalidCapability, InsufficientRights, CapabilityRevoked, OutOfMemory, InvalidObject, PermissionDenied, AlreadyExists, NotFound, IdExhausted, QuotaExceeded, SpaceQuota, SpaceIds, BadSpace, BadField, RegistryFull, RecycleFull, LogFull, PidTableFull, BadWorld}
 use Rattle.base.specs.Choose.{pick}
 use Rattle.steps.specs.Replies.{Left, Reply}
 use Rattle.request.specs.Laid.{Laid, laid_laid, laid_none, length_laid}
@@ -14,27 +16,30 @@ use Rattle.request_run.specs.Run.{Run, Served, Ran, answered, printed, ended, th
 -- ---- one record
 
 -- No answer has more than two digits.
+pub refusal_small : (refusal : Refusal) → number_of_refusal refusal < 100
+refusal_small InvalidCapability = omega arith
+refusal_small InsufficientRights = omega arith
+refusal_small CapabilityRevoked = omega arith
+refusal_small OutOfMemory = omega arith
+refusal_small InvalidObject = omega arith
+refusal_small PermissionDenied = omega arith
+refusal_small AlreadyExists = omega arith
+refusal_small NotFound = omega arith
+refusal_small IdExhausted = omega arith
+refusal_small QuotaExceeded = omega arith
+refusal_small SpaceQuota = omega arith
+refusal_small SpaceIds = omega arith
+refusal_small BadSpace = omega arith
+refusal_small BadField = omega arith
+refusal_small RegistryFull = omega arith
+refusal_small RecycleFull = omega arith
+refusal_small LogFull = omega arith
+refusal_small PidTableFull = omega arith
+refusal_small BadWorld = omega arith
+
 answer_small : (a : Answer) → number_of a < 100
 answer_small Done = omega arith
-answer_small InvalidCapability = omega arith
-answer_small InsufficientRights = omega arith
-answer_small CapabilityRevoked = omega arith
-answer_small OutOfMemory = omega arith
-answer_small InvalidObject = omega arith
-answer_small PermissionDenied = omega arith
-answer_small AlreadyExists = omega arith
-answer_small NotFound = omega arith
-answer_small IdExhausted = omega arith
-answer_small QuotaExceeded = omega arith
-answer_small SpaceQuota = omega arith
-answer_small SpaceIds = omega arith
-answer_small BadSpace = omega arith
-answer_small BadField = omega arith
-answer_small RegistryFull = omega arith
-answer_small RecycleFull = omega arith
-answer_small LogFull = omega arith
-answer_small PidTableFull = omega arith
-answer_small BadWorld = omega arith
+answer_small (Refuses refusal) = refusal_small refusal
 
 pub number_small : (n : ℕ) (a : Answer) → n ≡ number_of a → n < 100
 number_small n a is = rw is (answer_small a)

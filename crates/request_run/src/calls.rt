@@ -14,6 +14,7 @@ const SPACES: u64 = 4;
 const PIDS: [u64; 2] = [1, 2];
 
 // The notices go to an area of its own.
+#[tactic(auto, unfolding(crate::specs::Run::drained))]
 fn drain(mem: &mut [u64], pid: u64) -> Result<Done, Refused>
     ensures { record { reply = told result; memory = mem.new } ≡ drained pid mem.old }
 {
@@ -22,6 +23,7 @@ fn drain(mem: &mut [u64], pid: u64) -> Result<Done, Refused>
 }
 
 // Create, delegate, lookup, check, remove.
+#[tactic(auto, unfolding(crate::specs::Run::called_1_to_5, base::specs::Choose::when))]
 fn call_1_to_5(r: Request, mem: &mut [u64]) -> Result<Done, Refused>
     requires { (r.cap_type ≤ 15) × (r.rights < 2 ^ 32) }
     ensures { record { reply = told result; memory = mem.new } ≡ called_1_to_5 r mem.old }
@@ -52,6 +54,7 @@ fn call_1_to_5(r: Request, mem: &mut [u64]) -> Result<Done, Refused>
 }
 
 // Delete, held revoke, clear, copy, `revoke_all`.
+#[tactic(auto, unfolding(crate::specs::Run::called_6_to_10, base::specs::Choose::when))]
 fn call_6_to_10(r: Request, mem: &mut [u64]) -> Result<Done, Refused>
     ensures { record { reply = told result; memory = mem.new } ≡ called_6_to_10 r mem.old }
 {
@@ -72,6 +75,7 @@ fn call_6_to_10(r: Request, mem: &mut [u64]) -> Result<Done, Refused>
 }
 
 // Insert, space-made create, space revoke, drain, `revoke_capability`.
+#[tactic(auto, unfolding(crate::specs::Run::called_11_to_15, base::specs::Choose::when))]
 fn call_11_to_15(r: Request, mem: &mut [u64]) -> Result<Done, Refused>
     requires { r.rights < 2 ^ 32 }
     ensures { record { reply = told result; memory = mem.new } ≡ called_11_to_15 r mem.old }
@@ -93,6 +97,7 @@ fn call_11_to_15(r: Request, mem: &mut [u64]) -> Result<Done, Refused>
     revocation_calls::revoke_capability(mem, CapabilityToken(r.a), r.b, &PIDS)
 }
 
+#[tactic(auto, unfolding(crate::specs::Run::called, base::specs::Choose::when))]
 fn call(r: Request, mem: &mut [u64]) -> Result<Done, Refused>
     requires { (r.cap_type ≤ 15) × (r.rights < 2 ^ 32) }
     ensures { record { reply = told result; memory = mem.new } ≡ called r mem.old }
@@ -107,6 +112,7 @@ fn call(r: Request, mem: &mut [u64]) -> Result<Done, Refused>
 }
 
 // A record is refused before its call, or its call is made.
+#[tactic(auto, unfolding(crate::specs::Run::answered))]
 pub fn answer(r: Request, mem: &mut [u64]) -> Result<Done, Refused>
     requires { (r.cap_type ≤ 15) × (r.rights < 2 ^ 32) }
     ensures { record { reply = told result; memory = mem.new } ≡ answered r mem.old }

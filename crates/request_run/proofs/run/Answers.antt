@@ -1,80 +1,62 @@
--- `request_run::run` meets its contract: each test decides one choice, and what is served is the whole run.
-use Rattle.std.proofs.Common.{◌≡◌, sym, ap, ◌∙◌, ◌≢◌, not, List, ℕ, ◌*◌, ◌<◌, ◌≤◌, zero-add, arith, rules, eq-eqb, ne_eqb, lt-ltb, le-ltb, length}
-use Rattle.answers.specs.Number.{number_of}
-use Rattle.answers.specs.Answer.{Answer, BadField}
+-- An area too short is refused, then what the opening refuses; then what is served is the whole run.
+use Rattle.std.proofs.Common.{◌≡◌, refl, sym, ap, ◌∙◌, not, List, ℕ, ◌*◌, ◌<◌, ◌≤◌, zero-add, arith, lt-ltb, le-ltb, length}
+use Rattle.std.proofs.lemmas.Grind.{common_steps}
+use Rattle.std.proofs.lemmas.Result.{err_from_is_err_and}
+use Rattle.answers.specs.NumberLaws.{refusal_some}
+use Rattle.answers.specs.Answer.{Done, Refuses, BadField}
+use Rattle.answers.specs.declared.Refusal.{Refusal}
 use Rattle.base.specs.Choose.{when_yes, when_no}
-use Rattle.steps.specs.Replies.{Left, WithArea, done, refusal, Reply}
+use Rattle.steps.specs.Replies.{Left, WithArea, done}
 use Rattle.world.specs.Open as world
 use Rattle.request.specs.Laid.{laid_front}
-use Rattle.request_run.specs.Run.{Ran, numbers, quotas, whole_run, lines_for, unwritten, laid_out, run_out}
+use Rattle.request_run.specs.Run.{Ran, numbers, quotas, lines_for, unwritten, run_out}
 use Rattle.request_run.proofs.run.Goals as goal
 
--- A reply, an area and a memory.
-abbrev all : Reply → List ℕ → List ℕ → Left WithArea
-all reply area mem = record { reply = record { reply = reply; area = area }; memory = mem }
-
-alike : (r r' : Reply) (area area' mem mem' : List ℕ) → r ≡ r' → area ≡ area' → mem ≡ mem' → all r area mem ≡ all r' area' mem'
-alike r r' area area' mem mem' p q m = rw (p, q, m)
-
-module _ (bytes mem area : List ℕ) (few : ℕ) (reply : Reply) (most : few ≡ lines_for (length bytes)) where
-  refuses_area : length area < 28 * few → reply ≡ refusal BadField → all reply area mem ≡ run_out bytes mem area
+module _ (bytes mem area : List ℕ) (few : ℕ) (most : few ≡ lines_for (length bytes)) where
+  refuses_area : length area < 28 * few → run_out bytes mem area ≡ unwritten BadField mem area
   unfolding run_out
-  refuses_area l told =
-      ap (λ r. all r area mem) told ∙ sym (when_yes _ _ _ (lt-ltb (length area) (28 * lines_for (length bytes)) (rw most at l)))
+  refuses_area l = when_yes _ _ _ (lt-ltb (length area) (28 * lines_for (length bytes)) (rw most at l))
 
-  module _
-      (fits : 28 * few ≤ length area)
-      (opened : Answer)
-      (after : List ℕ)
-      (is_open : record { answer = opened; memory = after } ≡ world.opening numbers quotas mem)
-      (n : ℕ)
-      (named : n ≡ number_of opened)
-    where
-      enough : 28 * lines_for (length bytes) ≤ length area
-      enough = rw most at fits
+  module _ (fits : 28 * few ≤ length area) (after : List ℕ) where
+    enough : 28 * lines_for (length bytes) ≤ length area
+    enough = rw most at fits
 
-      is_named : number_of (world.opening numbers quotas mem).answer ≡ n
-      is_named = sym (ap (λ (o : world.OpenOut). number_of o.answer) is_open) ∙ sym named
+    refuses_open :
+        (refusal : Refusal) → record { answer = Refuses refusal; memory = after } ≡ world.opening numbers quotas mem
+        → run_out bytes mem area ≡ unwritten (Refuses refusal) after area
+    unfolding run_out
+    refuses_open refusal is =
+        when_no _ _ _ (le-ltb (length area) (28 * lines_for (length bytes)) enough)
+        ∙ rw (← is) (when_yes _ _ _ (ap not (refusal_some refusal)))
 
-      refuses_open : n ≢ 0 → reply ≡ refusal opened → all reply area after ≡ run_out bytes mem area
-      unfolding run_out
-      refuses_open bad told =
-          ap (λ r. all r area after) told
-          ∙ ap (λ (o : world.OpenOut). unwritten o.answer o.memory area) is_open
-          ∙ sym (when_no _ _ _ (le-ltb (length area) (28 * lines_for (length bytes)) enough)
-          ∙ when_yes _ _ _ (ap not (ne_eqb _ 0 (λ e. bad (sym is_named ∙ e)))))
+    runs :
+        (last longer : List ℕ) (behind : ℕ) → record { answer = Done; memory = after } ≡ world.opening numbers quotas mem
+        → Ran bytes after last area longer behind
+        → record { reply = record { reply = done behind; area = longer }; memory = last } ≡ run_out bytes mem area
+    unfolding run_out
+    runs last longer behind is ran =
+        alike behind _ longer _ last _ (ran.text.place ∙ zero-add _) (laid_front _ _ _ _ ran.text) ran.memory
+        ∙ sym (when_no _ _ _ (le-ltb (length area) (28 * lines_for (length bytes)) enough) ∙ rw (← is) (when_no _ _ _ refl))
+      where
+        alike :
+            (n n' : ℕ) (area area' mem mem' : List ℕ) → n ≡ n' → area ≡ area' → mem ≡ mem'
+            → ◌≡◌ {A = Left WithArea} (record { reply = record { reply = done n; area = area }; memory = mem })
+            (record { reply = record { reply = done n'; area = area' }; memory = mem' })
+        alike n n' area area' mem mem' p q m = rw (p, q, m)
 
-      runs :
-          (last longer : List ℕ) (behind : ℕ)
-          → n ≡ 0
-          → Ran bytes after last area longer behind
-          → reply ≡ done behind
-          → all reply longer last ≡ run_out bytes mem area
-      unfolding run_out
-      runs last longer behind good ran told =
-          alike reply _ longer _ last _ (told ∙ ap done (ran.text.place ∙ zero-add _)) (laid_front _ _ _ _ ran.text) ran.memory
-          ∙ ap (λ (o : world.OpenOut). laid_out (whole_run bytes o.memory) area) is_open
-          ∙ sym (when_no _ _ _ (le-ltb (length area) (28 * lines_for (length bytes)) enough)
-          ∙ when_no _ _ _ (ap not (eq-eqb _ 0 (is_named ∙ good))))
+pub returns-in_err-clause-mem_after : goal.returns-in_err-clause-mem_after
+returns-in_err-clause-mem_after c =
+    let (refused, is, unvisited) = err_from_is_err_and c.from_residual.result c.from_residual.ensures.1 in
+    let short = refuses_area _ c.args.mem.now _ _ c.lines_for.ensures.0 c.if-lines-lines_for.true in
+    rw (is, unvisited) (grind (arith, common_steps, short))
 
--- No more bytes are written than there are.
-none_written : (reply : Reply) (answer : Answer) (n : ℕ) → reply ≡ refusal answer → reply.value ≤ n
-none_written reply answer n told = omega (arith, ap (λ (r : Reply). r.value) told)
-
-all_written :
-    (bytes mem last area longer : List ℕ) (behind : ℕ) (reply : Reply)
-    → Ran bytes mem last area longer behind
-    → reply ≡ done behind
-    → reply.value ≤ length longer
-all_written bytes mem last area longer behind reply ran told = omega (arith, ap (λ (r : Reply). r.value) told, ran.inside)
-
-ruleset laws = (rules, refuses_area, refuses_open, runs, none_written, all_written)
-
-pub returns-then-lines-lines_for-clause-mem_after : goal.returns-then-lines-lines_for-clause-mem_after
-returns-then-lines-lines_for-clause-mem_after c = search laws
-
-pub returns-then-number-ne0-clause-mem_after : goal.returns-then-number-ne0-clause-mem_after
-returns-then-number-ne0-clause-mem_after c = search laws
+pub returns-in_err-open-clause-mem_after : goal.returns-in_err-open-clause-mem_after
+returns-in_err-open-clause-mem_after c =
+    let (refused, is, unvisited) = err_from_is_err_and c.from_residual-in_err-open.result c.from_residual-in_err-open.ensures.1 in
+    let fits : 28 * c.lines_for.result ≤ length c.args.lines.now = grind (arith, common_steps) in
+    rw (is, unvisited) (sym (refuses_open _ _ _ _ c.lines_for.ensures.0 fits _ _ c.in_err-open.ensures))
 
 pub returns-clause-mem_after : goal.returns-clause-mem_after
-returns-clause-mem_after c = search laws
+returns-clause-mem_after c =
+    let fits : 28 * c.lines_for.result ≤ length c.args.lines.now = grind (arith, common_steps) in
+    rw c.with.ensures (runs _ _ _ _ c.lines_for.ensures.0 fits _ _ _ _ c.in_ok-open.ensures c.serve_all.ensures)

@@ -2,5 +2,5 @@
 use Rattle.request_run.specs.RunLaws.{request_small}
 use Rattle.request_run.proofs.serve.Goals as goal
 
-pub answer-reply-requires : goal.answer-reply-requires
-answer-reply-requires c = request_small _ _ _ c.request_of-r.ensures.0
+pub answer-requires : goal.answer-requires
+answer-requires c = request_small _ _ _ c.request_of-r.ensures.0
