@@ -4,8 +4,14 @@
 -- which may be empty. The generation of an id is its revoked flag, so it is 0 if unrevoked and 1 if revoked.
 -- A link is 0, or 1 + the place of the parent: the children of place p are the places whose link names p, in their order, and that is
 -- the order in which the source's lists have them.
-use Rattle.std.specs.Prelude.{ℕ, suc, ◌+◌, ◌*◌, ◌/◌, ◌%◌, Bool, List, ◌==◌, slice_index}
+use Rattle.std.specs.Prelude.{ℕ, suc, ◌+◌, ◌*◌, ◌/◌, ◌%◌, ◌≤◌, Bool, List, ◌==◌, length, slice_index}
 use Rattle.base.specs.Below.{sum, one}
+
+-- Words with room for the places, of which so many are in use.
+pub record RegistryFits (rg : List ℕ) (places n : ℕ) : Type 0 where
+  pub in_use : n ≤ places
+  pub few : places ≤ 4095
+  pub room : 5 * places + 1 ≤ length rg
 
 abbrev pub id_at : List ℕ → ℕ → ℕ
 id_at rg k = slice_index rg k

@@ -10,22 +10,7 @@ ghost use Rattle.registry.specs.Children.{ids_at};
 ghost use Rattle.registry.specs.PlaceLists.{AllBelow};
 ghost use Rattle.registry.specs.Descent.{descent, unrevoked_of, marked};
 
-// Lists the children of each of n places, in arrays that have none yet.
-fn list_each(rg: &[u64], places: usize, n: usize, firsts: &mut [u16], nexts: &mut [u16])
-    requires n_le_places { (n ≤ places) × (places ≤ 4095) × (5 * places + 1 ≤ length rg.now) }
-    requires linked { Linked n (link_at places rg.now) }
-    requires child_lists { ChildLists places n rg.now firsts.old nexts.old n }
-    ensures { ChildLists places n rg.now firsts.new nexts.new 0 }
-{
-    for k in (0..n).rev() {
-        let link = rg[3 * places + k] as usize;
-        if link != 0 {
-            let p = link - 1;
-            nexts[k] = firsts[p];
-            firsts[p] = k as u16 + 1;
-        }
-    }
-}
+use crate::view::Registry;
 
 // The places of a list, from the one that `head` names on, go behind the first `count` of `order`, as many as there is room for. Answers
 // how many there are then.
@@ -47,26 +32,44 @@ fn append(nexts: &[u16], head: u16, order: &mut [u16], count: usize) -> usize
     order.len()
 }
 
-// Place r and all places under it, breadth first, to the front of `order`. Answers how many they are.
-pub fn descend(rg: &[u64], places: usize, n: usize, r: usize, order: &mut [u16]) -> usize
-    requires r_lt_n { (r < n) × (n ≤ places) × (places ≤ 4095) × (5 * places + 1 ≤ length rg.now) × (n ≤ length order.old) }
-    requires linked { Linked n (link_at places rg.now) }
-    ensures order_after { (take result order.new ≡ descent places n rg.now r) × (result ≤ n) }
-    ensures all_below { AllBelow n (take result order.new) }
-{
-    let mut firsts = [0u16; 4096];
-    let mut nexts = [0u16; 4096];
-    list_each(rg, places, n, &mut firsts, &mut nexts);
-    order[0] = r as u16;
-    let mut count = 1;
-    let mut at = 0;
-    // No `for`: the list grows as it is gone along.
-    while at < count {
-        let p = order[at] as usize;
-        count = append(&nexts, firsts[p], order, count);
-        at += 1;
+impl Registry<'_> {
+    // Lists the children of each place, in arrays that have none yet.
+    fn list_each(&self, firsts: &mut [u16], nexts: &mut [u16])
+        requires linked { Linked self.now.count (link_at self.now.places self.now.words.now) }
+        requires child_lists { ChildLists self.now.places self.now.count self.now.words.now firsts.old nexts.old self.now.count }
+        ensures { ChildLists self.now.places self.now.count self.now.words.now firsts.new nexts.new 0 }
+    {
+        for k in (0..self.count).rev() {
+            let link = self.words[3 * self.places + k] as usize;
+            if link != 0 {
+                let p = link - 1;
+                nexts[k] = firsts[p];
+                firsts[p] = k as u16 + 1;
+            }
+        }
     }
-    count
+
+    /// Place r and all places under it, breadth first, to the front of `order`. Answers how many they are.
+    pub fn descend(&self, r: usize, order: &mut [u16]) -> usize
+        requires r_lt_n { (r < self.now.count) × (self.now.count ≤ length order.old) }
+        requires linked { Linked self.now.count (link_at self.now.places self.now.words.now) }
+        ensures order_after { (take result order.new ≡ descent self.now.places self.now.count self.now.words.now r) × (result ≤ self.now.count) }
+        ensures all_below { AllBelow self.now.count (take result order.new) }
+    {
+        let mut firsts = [0u16; 4096];
+        let mut nexts = [0u16; 4096];
+        self.list_each(&mut firsts, &mut nexts);
+        order[0] = r as u16;
+        let mut count = 1;
+        let mut at = 0;
+        // No `for`: the list grows as it is gone along.
+        while at < count {
+            let p = order[at] as usize;
+            count = append(&nexts, firsts[p], order, count);
+            at += 1;
+        }
+        count
+    }
 }
 
 // Whether place k is revoked.

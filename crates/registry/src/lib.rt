@@ -6,3 +6,4 @@ pub mod descent;
 pub mod holders;
 pub mod ids;
 pub mod registering;
+pub mod view;

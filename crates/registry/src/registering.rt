@@ -4,6 +4,8 @@ ghost use Rattle.std.specs.Prelude.{◌≡◌, ◌+◌, ◌*◌, ◌<◌, ◌≤
 ghost use Rattle.registry.specs.Registering.{registered, list_given, links_mended, unregistered, has_child, unneeded, collected};
 ghost use Rattle.registry.specs.Registering as spec;
 
+use crate::view::Registry;
+
 // Registers an id behind the n registered ones; its link names its parent's place plus one, or is 0.
 pub fn register(rg: &mut [u64], places: usize, n: usize, id: u64, object: u64, link: u64)
     requires { (n < places) × (places ≤ 4095) × (5 * places + 1 ≤ length rg.old) }
@@ -64,23 +66,25 @@ pub fn unregister(rg: &mut [u64], places: usize, n: usize, k: usize)
     mend_links(rg, k, 3 * places + k, n - 1 - k);
 }
 
-fn has_child(rg: &[u64], places: usize, n: usize, k: usize) -> bool
-    requires { (k < n) × (n ≤ places) × (places ≤ 4095) × (5 * places + 1 ≤ length rg.now) }
-    ensures { result ≡ has_child places n rg.now k }
-{
-    let start = 3 * places;
-    rg[start..start + n].contains(&(k as u64 + 1))
-}
+impl Registry<'_> {
+    fn has_child(&self, k: usize) -> bool
+        requires { k < self.now.count }
+        ensures { result ≡ has_child self.now.places self.now.count self.now.words.now k }
+    {
+        let start = 3 * self.places;
+        self.words[start..start + self.count].contains(&(k as u64 + 1))
+    }
 
-// Whether place k is a child of place p with no children and no holders.
-#[tactic(auto, unfolding(crate::specs::Registering::unneeded))]
-fn unneeded(rg: &[u64], places: usize, p: usize, n: usize, k: usize) -> bool
-    requires { (k < n) × (p ≤ places) × (n ≤ places) × (places ≤ 4095) × (5 * places + 1 ≤ length rg.now) }
-    ensures { result ≡ spec.unneeded places p n rg.now k }
-{
-    rg[3 * places + k] == p as u64 + 1
-        && rg[2 * places + k] / 4 == 0
-        && !has_child(rg, places, n, k)
+    // Whether place k is a child of place p with no children and no holders.
+    #[tactic(auto, unfolding(crate::specs::Registering::unneeded))]
+    fn unneeded(&self, p: usize, k: usize) -> bool
+        requires { (k < self.now.count) × (p ≤ self.now.places) }
+        ensures { result ≡ spec.unneeded self.now.places p self.now.count self.now.words.now k }
+    {
+        self.words[3 * self.places + k] == p as u64 + 1
+            && self.words[2 * self.places + k] / 4 == 0
+            && !self.has_child(k)
+    }
 }
 
 // The children of place p with no children and no holders leave; answers how many ids are left.
@@ -91,7 +95,12 @@ pub fn collect(rg: &mut [u64], places: usize, p: usize, n: usize) -> usize
 {
     let mut left = n;
     for k in (0..n).rev() {
-        if unneeded(rg, places, p, left, k) {
+        let registry = Registry {
+            words: rg,
+            places,
+            count: left,
+        };
+        if registry.unneeded(p, k) {
             unregister(rg, places, left, k);
             left -= 1;
         }

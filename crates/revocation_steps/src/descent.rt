@@ -10,8 +10,8 @@ ghost use Rattle.world.specs.Numbers.{registered_of};
 ghost use Rattle.world.specs.Regions.{registry, view, on_region};
 ghost use Rattle.world.specs.Sound.{links};
 
+use steps::registered::registry_of;
 use world::Numbers;
-use world::head::REGISTERED;
 
 // Place r and all places under it, breadth first, to the front of `order`. Answers how many they are.
 pub fn descend(mem: &[u64], d: Numbers, r: usize, order: &mut [u16]) -> usize
@@ -21,13 +21,7 @@ pub fn descend(mem: &[u64], d: Numbers, r: usize, order: &mut [u16]) -> usize
         × (result ≤ registered_of mem.now) }
     ensures all_below { AllBelow (registered_of mem.now) (take result order.new) }
 {
-    registry::descent::descend(
-        &mem[d.registry()],
-        d.places,
-        mem[REGISTERED] as usize,
-        r,
-        order,
-    )
+    registry_of(mem, d).descend(r, order)
 }
 
 // Of the first `count` places of `order` those that are not revoked yet, to its front. Answers how many they are.

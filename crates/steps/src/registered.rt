@@ -9,9 +9,22 @@ ghost use Rattle.world.specs.Sound.{ids, states, links};
 ghost use Rattle.steps.specs.Ready.{Ready};
 ghost use Rattle.steps.specs.Steps.{place_in, objects, register_step, list_step, unregister_step, recycle_step, collect_step, children_of, add_step};
 
+use registry::view::Registry;
 use world::Numbers;
 use world::head::{RECYCLED, REGISTERED};
 use world::regions::registry_at;
+
+// The registry, to be read.
+pub fn registry_of(mem: &[u64], d: Numbers) -> Registry<'_>
+    requires { Ready d mem.now }
+    ensures { (result.words.now ≡ view d registry mem.now) × (result.places ≡ d.places) × (result.count ≡ registered_of mem.now) }
+{
+    Registry {
+        words: &mem[d.registry()],
+        places: d.places,
+        count: mem[REGISTERED] as usize,
+    }
+}
 
 // The place of an id, or how many are registered.
 pub fn place_of(mem: &[u64], d: Numbers, id: u64) -> usize
@@ -106,7 +119,7 @@ pub fn child_count(mem: &[u64], d: Numbers, p: usize) -> usize
     requires { Ready d mem.now × (p ≤ d.places) }
     ensures { result ≡ children_of d mem.now p }
 {
-    registry::children::child_count(&mem[d.registry()], d.places, mem[REGISTERED] as usize, p)
+    registry_of(mem, d).child_count(p)
 }
 
 // The ids of the children of place p, in list order, to the front of `area`.
@@ -115,13 +128,7 @@ pub fn list_children(mem: &[u64], d: Numbers, p: usize, area: &mut [u64])
     ensures { area.new
         ≡ written (child_ids d.places p (registered_of mem.now) (view d registry mem.now)) area.old }
 {
-    registry::children::list_children(
-        &mem[d.registry()],
-        d.places,
-        mem[REGISTERED] as usize,
-        p,
-        area,
-    );
+    registry_of(mem, d).list_children(p, area);
 }
 
 // How many ids have a list of children.
@@ -129,7 +136,7 @@ pub fn parents(mem: &[u64], d: Numbers) -> usize
     requires { Ready d mem.now }
     ensures { result ≡ derivation.parents d.places (registered_of mem.now) (view d registry mem.now) }
 {
-    registry::children::parents(&mem[d.registry()], d.places, mem[REGISTERED] as usize)
+    registry_of(mem, d).parents()
 }
 
 // How many children stand in lists.
@@ -137,7 +144,7 @@ pub fn edges(mem: &[u64], d: Numbers) -> usize
     requires { Ready d mem.now }
     ensures { result ≡ derivation.edges d.places (registered_of mem.now) (view d registry mem.now) }
 {
-    registry::children::edges(&mem[d.registry()], d.places, mem[REGISTERED] as usize)
+    registry_of(mem, d).edges()
 }
 
 // Word i of the head, the epoch or a statistic, counts k more.

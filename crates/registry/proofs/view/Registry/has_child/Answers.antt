@@ -4,7 +4,7 @@ use Rattle.base.specs.Part.{length_part, get_d_part}
 use Rattle.registry.specs.Words.{link_at, child_of}
 use Rattle.registry.specs.Registering.{has_child}
 use Rattle.base.specs.Listed.{some_listed}
-use Rattle.registry.proofs.registering.has_child.Goals as goal
+use Rattle.registry.proofs.view.Registry.has_child.Goals as goal
 
 child_listed : (places n k : ℕ) (rg : List ℕ) → 3 * places + n ≤ length rg
     → list_any (λ x. eqb x (k + 1)) (take (3 * places + n - 3 * places) (drop (3 * places) rg)) ≡ has_child places n rg k
@@ -16,5 +16,5 @@ child_listed places n k rg l =
 
 pub returns : goal.returns
 returns c =
-    let found : c.contains.result ≡ list_any (λ x. eqb x (c.args.k + 1)) (take (3 * c.args.places + c.args.n - 3 * c.args.places) (drop (3 * c.args.places) c.args.rg.now)) = search rules in
+    let found : c.contains.result ≡ list_any (λ x. eqb x (c.args.k + 1)) (take (3 * c.args.self.now.places + c.args.self.now.count - 3 * c.args.self.now.places) (drop (3 * c.args.self.now.places) c.args.self.now.words.now)) = search rules in
     found ∙ child_listed _ _ _ _ (omega arith)

@@ -7,8 +7,8 @@ use Rattle.registry.specs.ChildLists.{ChildLists, list_from, lists_none, lists_c
 use Rattle.registry.specs.PlaceLists.{AllBelow}
 use Rattle.registry.specs.Descent.{descended_from, descent}
 use Rattle.registry.specs.DescentLaws.{Descending, descending_starts, descending_goes, found_few}
-use Rattle.registry.proofs.descent.descend.Invariants.{Queue}
-use Rattle.registry.proofs.descent.descend.Goals as goal
+use Rattle.registry.proofs.view.Registry.descend.Invariants.{Queue}
+use Rattle.registry.proofs.view.Registry.descend.Goals as goal
 
 module _ (places n r : ℕ) (rg firsts nexts : List ℕ) where
   starts : (order : List ℕ) → Linked n (link_at places rg) → ChildLists places n rg firsts nexts 0 → r < n → n ≤ length order

@@ -1,7 +1,7 @@
 use Rattle.std.proofs.Common.{refl, arith, rules}
 use Rattle.registry.specs.Children.{parents}
 use Rattle.registry.proofs.Counting.{counting, counting_goes}
-use Rattle.registry.proofs.children.parents.Goals as goal
+use Rattle.registry.proofs.view.Registry.parents.Goals as goal
 
 ruleset laws = (rules, counting)
 

@@ -1,7 +1,7 @@
 use Rattle.std.proofs.Common.{rules}
-use Rattle.registry.specs.Words.{children}
+use Rattle.registry.specs.Children.{edges}
 use Rattle.registry.proofs.Counting.{counting}
-use Rattle.registry.proofs.children.child_count.Goals as goal
+use Rattle.registry.proofs.view.Registry.edges.Goals as goal
 
 ruleset laws = (rules, counting)
 
@@ -12,5 +12,5 @@ pub loop-k-preserved : goal.loop-k-preserved
 loop-k-preserved c = search laws
 
 pub returns : goal.returns
-unfolding children
+unfolding edges
 returns c = search laws

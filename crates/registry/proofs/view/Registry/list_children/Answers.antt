@@ -6,9 +6,9 @@ use Rattle.base.specs.Written.{written}
 use Rattle.registry.specs.Children.{child_places_from, child_places, ids_at, child_ids}
 use Rattle.registry.specs.ChildrenLaws.{child_ids-length}
 use Rattle.registry.proofs.Naming.{names_it, names_other}
-use Rattle.registry.proofs.children.list_children.Invariants.{left, Listing}
-use Rattle.registry.proofs.children.list_children.Goals as goal
-use Rattle.registry.proofs.children.list_children.Goals.{then-rg-places, else-rg-places}
+use Rattle.registry.proofs.view.Registry.list_children.Invariants.{left, Listing}
+use Rattle.registry.proofs.view.Registry.list_children.Goals as goal
+use Rattle.registry.proofs.view.Registry.list_children.Goals.{then-self-k, else-self-k}
 
 starts : (places p n : ℕ) (rg area : List ℕ) → children (link_at places rg) n p ≤ length area → Listing places p n rg area area 0 0
 unfolding child_places child_ids written
@@ -71,9 +71,9 @@ pub bounds-area-count : goal.bounds-area-count
 bounds-area-count c = search laws
 
 pub loop-k-preserved : goal.loop-k-preserved
-loop-k-preserved c = elim c.if-rg-places.branch [
-  | then-rg-places w ↦ rw (w.area-is, w.count-is) (search laws)
-  | else-rg-places w ↦ rw (w.area-is, w.count-is) (search laws)
+loop-k-preserved c = elim c.if-self-k.branch [
+  | then-self-k w ↦ rw (w.area-is, w.count-is) (search laws)
+  | else-self-k w ↦ rw (w.area-is, w.count-is) (search laws)
 ]
 
 pub returns : goal.returns

@@ -2,8 +2,8 @@ use Rattle.std.proofs.Common.{◌≡◌, ℕ, suc, ◌+◌, ◌-◌, ◌<◌, �
 use Rattle.registry.specs.Words.{link_at}
 use Rattle.registry.specs.Sound.{Linked}
 use Rattle.registry.specs.ChildLists.{ChildLists, lists_root, lists_child}
-use Rattle.registry.proofs.descent.list_each.Invariants.{Listing}
-use Rattle.registry.proofs.descent.list_each.Goals as goal
+use Rattle.registry.proofs.view.Registry.list_each.Invariants.{Listing}
+use Rattle.registry.proofs.view.Registry.list_each.Goals as goal
 
 starts : (places n : ℕ) (rg firsts nexts : List ℕ) → Linked n (link_at places rg) → ChildLists places n rg firsts nexts n
     → Listing places n rg firsts nexts firsts nexts n
