@@ -11,6 +11,7 @@ ghost use Rattle.registry.specs.Counts.{Counted, count_entry, count_entries, AtM
 ghost use Rattle.registry_look.specs.Look.{place_test, places_test, recycled_id_test};
 
 use base::distinct::Index;
+use registry::view::Registry;
 
 // Whether a child may have this state below a parent of that state: the parent has a list, and is not revoked unless the child is.
 fn child_sound(parent: u64, child: u64) -> bool
@@ -21,27 +22,31 @@ fn child_sound(parent: u64, child: u64) -> bool
 
 // The rules of place k.
 #[tactic(auto, unfolding(crate::specs::Look::place_test))]
-fn place_sound(rg: &[u64], places: usize, next: u64, k: usize) -> bool
-    requires { (k < places) × (places ≤ 4095) × (4 * places ≤ length rg.now) }
-    ensures { result ≡ place_test places next rg.now k }
+fn place_sound(registry: &Registry<'_>, next: u64, k: usize) -> bool
+    requires { k < registry.now.places }
+    ensures { result ≡ place_test registry.now.places next registry.now.words.now k }
 {
-    let link = rg[3 * places + k] as usize;
-    (1..next).contains(&rg[k])
+    let link = registry.words[3 * registry.places + k] as usize;
+    (1..next).contains(&registry.words[k])
         && link <= k
-        && (link == 0 || child_sound(rg[2 * places + (link - 1)], rg[2 * places + k]))
+        && (link == 0
+            || child_sound(
+                registry.words[2 * registry.places + (link - 1)],
+                registry.words[2 * registry.places + k],
+            ))
 }
 
-// The rules of each of n places, and that no list holds over 1,024, in counters of children that are 0 yet.
-fn each_place_sound(rg: &[u64], places: usize, n: usize, next: u64, counts: &mut [u16]) -> bool
-    requires n_le_places { (n ≤ places) × (places ≤ 4095) × (4 * places ≤ length rg.now) × (n ≤ length counts.old) }
-    requires counted { Counted (link_at places rg.now) 0 counts.old }
-    ensures { result ≡ places_test places n next rg.now }
+// The rules of each place in use, and that no list holds over 1,024, in counters of children that are 0 yet.
+fn each_place_sound(registry: &Registry<'_>, next: u64, counts: &mut [u16]) -> bool
+    requires count_in_bounds { registry.now.count ≤ length counts.old }
+    requires counted { Counted (link_at registry.now.places registry.now.words.now) 0 counts.old }
+    ensures { result ≡ places_test registry.now.places registry.now.count next registry.now.words.now }
 {
-    for k in 0..n {
-        if !place_sound(rg, places, next, k) {
+    for k in 0..registry.count {
+        if !place_sound(registry, next, k) {
             return false;
         }
-        let link = rg[3 * places + k] as usize;
+        let link = registry.words[3 * registry.places + k] as usize;
         if link == 0 {
             continue;
         }
@@ -55,25 +60,24 @@ fn each_place_sound(rg: &[u64], places: usize, n: usize, next: u64, counts: &mut
     true
 }
 
-// The rules of n places and of their lists, with N counters.
-fn places_sound_in<const N: usize>(rg: &[u64], places: usize, n: usize, next: u64) -> bool
-    requires { (n ≤ places) × (places ≤ 4095) × (4 * places ≤ length rg.now) × (n ≤ N) × (N ≤ 4096) }
-    ensures { result ≡ places_test places n next rg.now }
+// The rules of the places in use and of their lists, with N counters.
+fn places_sound_in<const N: usize>(registry: &Registry<'_>, next: u64) -> bool
+    requires { (registry.now.count ≤ N) × (N ≤ 4096) }
+    ensures { result ≡ places_test registry.now.places registry.now.count next registry.now.words.now }
 {
     let mut counts = [0u16; N];
-    each_place_sound(rg, places, n, next, &mut counts)
+    each_place_sound(registry, next, &mut counts)
 }
 
-// The rules of n places and of their lists. Few places have few counters, since to clear them all takes longer than to go along few
-// places.
-fn places_sound(rg: &[u64], places: usize, n: usize, next: u64) -> bool
-    requires { (n ≤ places) × (places ≤ 4095) × (4 * places ≤ length rg.now) }
-    ensures { result ≡ places_test places n next rg.now }
+// The rules of the places in use and of their lists. Few places have few counters, since to clear them all takes longer than to go along
+// few places.
+fn places_sound(registry: &Registry<'_>, next: u64) -> bool
+    ensures { result ≡ places_test registry.now.places registry.now.count next registry.now.words.now }
 {
-    if n <= 512 {
-        places_sound_in::<512>(rg, places, n, next)
+    if registry.count <= 512 {
+        places_sound_in::<512>(registry, next)
     } else {
-        places_sound_in::<4096>(rg, places, n, next)
+        places_sound_in::<4096>(registry, next)
     }
 }
 
@@ -93,14 +97,14 @@ fn recycled_id_sound(ids: &Index<'_>, next: u64, last: u64, id: u64) -> bool
 }
 
 // The rules of each of m recycled ids, by the index of the registered ones.
-fn recycled_sound(rg: &[u64], places: usize, m: usize, next: u64, ids: &Index<'_>) -> bool
-    requires m_le_places { (m ≤ places + 1) × (places ≤ 4095) × (5 * places + 1 ≤ length rg.now) }
-    requires of_these { ids.now.words.now ≡ take (length ids.now.words.now) rg.now }
-    ensures { result ≡ all m (recycled_id_test places (length ids.now.words.now) next rg.now) }
+fn recycled_sound(registry: &Registry<'_>, m: usize, next: u64, ids: &Index<'_>) -> bool
+    requires m_le_places { m ≤ registry.now.places + 1 }
+    requires of_these { ids.now.words.now ≡ take (length ids.now.words.now) registry.now.words.now }
+    ensures { result ≡ all m (recycled_id_test registry.now.places (length ids.now.words.now) next registry.now.words.now) }
 {
     let mut last = 0;
     for j in 0..m {
-        let id = rg[4 * places + j];
+        let id = registry.words[4 * registry.places + j];
         if !recycled_id_sound(ids, next, last, id) {
             return false;
         }
@@ -109,27 +113,25 @@ fn recycled_sound(rg: &[u64], places: usize, m: usize, next: u64, ids: &Index<'_
     true
 }
 
-// The rules of a registry of n registered and m recycled ids, but for the holders'. If they hold, the index of the registered ids, made in
+// The rules of a registry with m recycled ids, but for the holders'. If they hold, the index of the registered ids, made in
 // heads and prevs, which index nothing yet.
 pub fn registry_sound<'a>(
-    rg: &'a [u64],
-    places: usize,
-    n: usize,
+    registry: &Registry<'a>,
     m: usize,
     next: u64,
     heads: &'a mut [u16],
     prevs: &'a mut [u16],
 ) -> Option<Index<'a>>
-    requires n_le_places { (n ≤ places) × (m ≤ places + 1) × (places ≤ 4095) × (5 * places + 1 ≤ length rg.now) }
-    requires chained { Chained (take n rg.now) heads.old prevs.old 0 }
-    ensures value { is_some result ≡ registry_test places n m next rg.now }
-    ensures indexed { IfSome result (λ ids. ids.words.now ≡ take n rg.now) }
+    requires m_le_places { m ≤ registry.now.places + 1 }
+    requires chained { Chained (take registry.now.count registry.now.words.now) heads.old prevs.old 0 }
+    ensures value { is_some result ≡ registry_test registry.now.places registry.now.count m next registry.now.words.now }
+    ensures indexed { IfSome result (λ ids. ids.words.now ≡ take registry.now.count registry.now.words.now) }
 {
-    if !places_sound(rg, places, n, next) {
+    if !places_sound(registry, next) {
         return None;
     }
-    let ids = Index::of(&rg[..n], heads, prevs)?;
-    if recycled_sound(rg, places, m, next, &ids) {
+    let ids = Index::of(&registry.words[..registry.count], heads, prevs)?;
+    if recycled_sound(registry, m, next, &ids) {
         Some(ids)
     } else {
         None
@@ -137,20 +139,20 @@ pub fn registry_sound<'a>(
 }
 
 // Whether the holders at place k are at most its count.
-fn within(rg: &[u64], places: usize, counts: &[u16], k: usize) -> bool
-    requires { (k < places) × (places ≤ 4095) × (4 * places ≤ length rg.now) × (k < length counts.now) }
-    ensures { result ≡ leb (holders (state_at places rg.now k)) (get_or counts.now k 0) }
+fn within(registry: &Registry<'_>, counts: &[u16], k: usize) -> bool
+    requires { (k < registry.now.places) × (k < length counts.now) }
+    ensures { result ≡ leb (holders (state_at registry.now.places registry.now.words.now k)) (get_or counts.now k 0) }
 {
-    rg[2 * places + k] / 4 <= counts[k] as u64
+    registry.words[2 * registry.places + k] / 4 <= counts[k] as u64
 }
 
-// Whether the holders at each of n places are at most its count.
-pub fn holders_within(rg: &[u64], places: usize, n: usize, counts: &[u16]) -> bool
-    requires { (n ≤ places) × (places ≤ 4095) × (4 * places ≤ length rg.now) × (n ≤ length counts.now) }
-    ensures { result ≡ within_test n (state_at places rg.now) (λ k. get_or counts.now k 0) }
+// Whether the holders at each place in use are at most its count.
+pub fn holders_within(registry: &Registry<'_>, counts: &[u16]) -> bool
+    requires { registry.now.count ≤ length counts.now }
+    ensures { result ≡ within_test registry.now.count (state_at registry.now.places registry.now.words.now) (λ k. get_or counts.now k 0) }
 {
-    for k in 0..n {
-        if !within(rg, places, counts, k) {
+    for k in 0..registry.count {
+        if !within(registry, counts, k) {
             return false;
         }
     }

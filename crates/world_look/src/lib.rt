@@ -12,6 +12,7 @@ ghost use Rattle.world.specs.Sound.{registered_ids, counts_test, head_test, spac
 ghost use Rattle.world.specs.SoundLaws.{Headed};
 
 use base::distinct::Index;
+use registry::view::Registry;
 use registry_look::{count_entries, holders_within, registry_sound};
 use world::Numbers;
 use world::head::{LOGGED, NEXT, RECYCLED, REGISTERED, in_range, numbers};
@@ -106,19 +107,20 @@ fn holdings_by<const H: usize, const N: usize>(mem: &[u64], d: Numbers) -> bool
     let mut heads = [0u16; H];
     let mut prevs = [0u16; N];
     let mut counts = [0u16; N];
-    let rg = &mem[d.registry()];
-    let n = mem[REGISTERED] as usize;
+    let registry = Registry {
+        words: &mem[d.registry()],
+        places: d.places,
+        count: mem[REGISTERED] as usize,
+    };
     let indexed = registry_sound(
-        rg,
-        d.places,
-        n,
+        &registry,
         mem[RECYCLED] as usize,
         mem[NEXT],
         &mut heads,
         &mut prevs,
     );
     let Some(ids) = indexed else { return false };
-    spaces_sound(mem, d, &ids, &mut counts) && holders_within(rg, d.places, n, &counts)
+    spaces_sound(mem, d, &ids, &mut counts) && holders_within(&registry, &counts)
 }
 
 // The ids, the spaces and the holders. Few ids have a small index, since to clear the large one takes longer than to look at them.

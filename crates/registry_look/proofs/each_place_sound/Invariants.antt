@@ -16,4 +16,4 @@ pub record Done (places n next : ℕ) (rg counts₀ counts : List ℕ) (k : ℕ)
   pub counted : Counted (link_at places rg) k counts
 
 abbrev pub invariant-loop-k : goal.invariant-loop-k
-invariant-loop-k l = Done l.places l.n l.next l.rg l.initial.counts l.counts l.k
+invariant-loop-k l = Done l.registry.places l.registry.count l.next l.registry.words.now l.initial.counts l.counts l.k

@@ -11,4 +11,4 @@ pub record Done (places n m next : ℕ) (rg : List ℕ) (last j : ℕ) : Type 0 
   pub passed : all j (recycled_id_test places n next rg) ≡ true
 
 abbrev pub invariant-loop-j : goal.invariant-loop-j
-invariant-loop-j l = Done l.places (length l.ids.words.now) l.m l.next l.rg l.last l.j
+invariant-loop-j l = Done l.registry.places (length l.ids.words.now) l.m l.next l.registry.words.now l.last l.j
