@@ -53,7 +53,8 @@ impl Registry<'_> {
     pub fn descend(&self, r: usize, order: &mut [u16]) -> usize
         requires r_lt_n { (r < self.now.count) × (self.now.count ≤ length order.old) }
         requires linked { Linked self.now.count (link_at self.now.places self.now.words.now) }
-        ensures order_after { (take result order.new ≡ descent self.now.places self.now.count self.now.words.now r) × (result ≤ self.now.count) }
+        ensures order_after { (take result order.new ≡ descent self.now.places self.now.count self.now.words.now r)
+            × (result ≤ self.now.count) }
         ensures all_below { AllBelow self.now.count (take result order.new) }
     {
         let mut firsts = [0u16; 4096];

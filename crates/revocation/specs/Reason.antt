@@ -1,6 +1,6 @@
 -- Why a capability was revoked, as a number and by name. Document 01: reasons print as explicit, parent_revoked, process_exit,
 -- policy_enforced. A name is the list of its ASCII bytes.
-use Rattle.std.specs.Prelude.{List, [], ◌∷◌, ◌≡◌, refl, ℕ, ◌<◌, ◌≤◌, eqb, Result, Ok, Err}
+use Rattle.std.specs.Prelude.{List, [], ◌∷◌, ◌≡◌, refl, ℕ, ◌≤◌, eqb, Result, Ok, Err}
 use Rattle.std.proofs.Common.{arith}
 use Rattle.answers.specs.declared.Refusal.{Refusal}
 use Rattle.answers.specs.declared.Refusal.TheVariants.{BadField}

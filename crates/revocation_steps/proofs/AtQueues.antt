@@ -1,5 +1,5 @@
 -- The words of a queue, read in the memory where the queue starts.
-use Rattle.std.proofs.Common.{Bool, List, ◌≡◌, sym, ◌∙◌, ℕ, ◌+◌, ◌<◌, add-zero, arith, length, get_or}
+use Rattle.std.proofs.Common.{Bool, List, ◌≡◌, sym, ◌∙◌, ℕ, ◌+◌, arith, get_or}
 use Rattle.world.specs.Regions.{queue, StartsAt}
 use Rattle.world.specs.Sound.{pids, lengths}
 use Rattle.world.specs.Views.{view_word}

@@ -1,6 +1,6 @@
 -- `revocation::log::keep_absent` meets its contract: one pair stays where it is; for more, what is lent is the first n pairs of the log,
 -- and fresh arrays index nothing.
-use Rattle.std.proofs.Common.{◌≡◌, sym, ◌∙◌, Bool, true, false, List, [], ◌∷◌, ℕ, ◌<◌, ◌≤◌, arith, length, get_or, take, length-take, take-suc}
+use Rattle.std.proofs.Common.{◌≡◌, sym, ◌∙◌, Bool, true, false, List, [], ◌∷◌, ℕ, ◌<◌, ◌≤◌, arith, length, get_or, take, take-suc}
 use Rattle.revocation.specs.Log.{log_has, absent_of}
 use Rattle.revocation.specs.LogLaws.{absent_one, absent_take}
 use Rattle.revocation.proofs.log.keep_absent.Goals as goal

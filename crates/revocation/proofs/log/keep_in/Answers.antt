@@ -1,5 +1,5 @@
 -- `revocation::log::keep_in` meets its contract: fresh arrays index nothing, and words that differ are indexed.
-use Rattle.std.proofs.Common.{◌∙◌, arith, rules}
+use Rattle.std.proofs.Common.{◌∙◌, arith}
 use Rattle.std.proofs.lemmas.List.{length-replicate}
 use Rattle.std.proofs.lemmas.Grind.{common_steps}
 use Rattle.base.specs.Chain.{chained_none}

@@ -1,5 +1,5 @@
 -- `revocation::look::each_sound` meets its contract: the places before q keep their rules.
-use Rattle.std.proofs.Common.{◌≡◌, true, ◌-◌, ◌≤◌}
+use Rattle.std.proofs.Common.{◌≡◌, true, ◌≤◌}
 use Rattle.base.specs.Below.{all}
 use Rattle.revocation.specs.Words.{queue_at}
 use Rattle.revocation.specs.Sound.{queue_test}

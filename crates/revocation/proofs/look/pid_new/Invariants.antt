@@ -1,5 +1,5 @@
 -- `revocation::look::pid_new` meets its contract: a free place is apart from all, and the queues before i have other pids than j.
-use Rattle.std.proofs.Common.{◌≡◌, Bool, true, List, ℕ, ◌-◌, ◌≤◌}
+use Rattle.std.proofs.Common.{◌≡◌, Bool, true, List, ℕ, ◌≤◌}
 use Rattle.base.specs.Below.{all}
 use Rattle.revocation.specs.Words.{pid_at, length_at}
 use Rattle.revocation.specs.Sound.{apart_test}

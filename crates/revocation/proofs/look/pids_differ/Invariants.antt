@@ -1,5 +1,5 @@
 -- `revocation::look::pids_differ` meets its contract: the queues before j have different pids.
-use Rattle.std.proofs.Common.{◌≡◌, true, ◌-◌, ◌≤◌}
+use Rattle.std.proofs.Common.{◌≡◌, true, ◌≤◌}
 use Rattle.base.specs.Below.{all}
 use Rattle.revocation.specs.Words.{pid_at, length_at}
 use Rattle.revocation.specs.Sound.{apart_test}

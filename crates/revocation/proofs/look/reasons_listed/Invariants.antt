@@ -1,5 +1,5 @@
 -- `revocation::look::reasons_listed` meets its contract: the notices before i have listed reasons.
-use Rattle.std.proofs.Common.{◌≡◌, true, ◌-◌, ◌≤◌, leb}
+use Rattle.std.proofs.Common.{◌≡◌, true, ◌≤◌, leb}
 use Rattle.base.specs.Below.{all}
 use Rattle.revocation.specs.Words.{reason_at}
 use Rattle.revocation.proofs.look.reasons_listed.Given as goal

@@ -1,5 +1,5 @@
 -- `revocation::queues::copy_notice` meets its contract: three words of the ring are its words, and they go to three places.
-use Rattle.std.proofs.Common.{◌≡◌, refl, sym, ◌∙◌, append_assoc, List, [], ◌∷◌, ◌++◌, ℕ, ◌+◌, ◌-◌, ◌*◌, ◌≤◌, arith, length, get_or, take, drop, drop-drop}
+use Rattle.std.proofs.Common.{◌≡◌, refl, sym, ◌∙◌, append_assoc, List, [], ◌∷◌, ◌++◌, ℕ, ◌+◌, ◌*◌, ◌≤◌, arith, length, get_or, take, drop, drop-drop}
 use Rattle.std.proofs.Math.Nat.{add-sub_cancel_left}
 use Rattle.std.proofs.Math.Seq.{sets, sets-eq}
 use Rattle.base.specs.Rest.{drop_next}

@@ -1,5 +1,5 @@
 use Rattle.std.specs.List.{list_any}
-use Rattle.std.proofs.Common.{◌≡◌, ◌∙◌, ap, ℕ, suc, ◌+◌, ◌-◌, ◌*◌, ◌<◌, ◌≤◌, eqb, List, length, take, drop, get_or, add-one, arith, rules}
+use Rattle.std.proofs.Common.{◌≡◌, ◌∙◌, ap, ℕ, suc, ◌+◌, ◌-◌, ◌*◌, ◌≤◌, eqb, List, length, take, drop, add-one, arith, rules}
 use Rattle.base.specs.Part.{length_part, get_d_part}
 use Rattle.registry.specs.Words.{link_at, child_of}
 use Rattle.registry.specs.Registering.{has_child}
