@@ -92,7 +92,13 @@ fn revoke_listed(
 
 // Place r is revoked with all under it. Already revoked: nothing changes.
 #[tactic(auto, using(steps::proofs::laws::Ready::ready_at), unfolding(crate::specs::Cascade::revoking, base::specs::Choose::when))]
-pub fn revoke_at(mem: &mut [u64], d: Numbers, r: usize, time: u64, listed: &[u64]) -> Result<Done, Refused>
+pub fn revoke_at(
+    mem: &mut [u64],
+    d: Numbers,
+    r: usize,
+    time: u64,
+    listed: &[u64],
+) -> Result<Done, Refused>
     requires { SoundAt d mem.old × (r < registered_of mem.old) }
     ensures { record { reply = told result; memory = mem.new } ≡ revoking d r time listed.now mem.old }
 {

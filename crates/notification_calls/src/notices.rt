@@ -24,8 +24,7 @@ fn count_for(mem: &[u64], d: Numbers, q: usize) -> u64
 }
 
 // The notices of the queue at place q, which has `count`, go to the front of the area.
-#[tactic(auto, using(crate::proofs::Noticing::there, crate::proofs::Noticing::none_for, crate::proofs::Noticing::count_there,
-    steps::proofs::laws::Ready::queues_ready_at), unfolding(base::specs::Written::written))]
+#[tactic(auto, using(crate::proofs::Noticing::there, crate::proofs::Noticing::none_for, crate::proofs::Noticing::count_there, steps::proofs::laws::Ready::queues_ready_at), unfolding(base::specs::Written::written))]
 fn copy_for(mem: &[u64], d: Numbers, q: usize, count: u64, area: &mut [u64])
     requires { SoundAt d mem.now × (count ≡ count_for d mem.now q) × (3 * count ≤ length area.old) }
     ensures { area.new ≡ written (notices_for d mem.now q) area.old }
@@ -37,8 +36,7 @@ fn copy_for(mem: &[u64], d: Numbers, q: usize, count: u64, area: &mut [u64])
 
 /// The notices of a pid, oldest first, three words each, to the front of the area; the value is how many. 21 for an area that is too short
 /// for them.
-#[tactic(auto, using(crate::proofs::Noticing::few_for),
-    unfolding(crate::specs::Calls::peek_out, steps::specs::Enter::on_world))]
+#[tactic(auto, using(crate::proofs::Noticing::few_for), unfolding(crate::specs::Calls::peek_out, steps::specs::Enter::on_world))]
 pub fn peek_notifications(mem: &[u64], pid: u64, area: &mut [u64]) -> Result<Done, Refused>
     ensures { record { reply = told result; area = area.new } ≡ peek_out mem.now pid area.old }
 {
@@ -63,8 +61,7 @@ fn remove_queue(mem: &mut [u64], d: Numbers, q: usize)
 }
 
 /// The same as a peek, and the queue is then no more.
-#[tactic(auto, using(crate::proofs::Noticing::few_for),
-    unfolding(crate::specs::Calls::drain_out, steps::specs::Enter::on_world))]
+#[tactic(auto, using(crate::proofs::Noticing::few_for), unfolding(crate::specs::Calls::drain_out, steps::specs::Enter::on_world))]
 pub fn drain_notifications(mem: &mut [u64], pid: u64, area: &mut [u64]) -> Result<Done, Refused>
     ensures { record { reply = record { reply = told result; area = area.new }; memory = mem.new }
         ≡ drain_out mem.old pid area.old }

@@ -24,7 +24,13 @@ fn has_no_place(mem: &[u64], d: Numbers, pid: u64) -> bool
 /// One notice for a pid, by the number of its reason. 21 for an id of more than 48 bits or a number of no reason, 25 where the pid has no queue
 /// and none is free.
 #[tactic(auto, using(steps::proofs::laws::Ready::queues_ready_at), unfolding(crate::specs::Calls::notify_out, steps::specs::Enter::on_world, base::specs::Choose::when))]
-pub fn notify_process(mem: &mut [u64], pid: u64, id: u64, reason: u8, time: u64) -> Result<Done, Refused>
+pub fn notify_process(
+    mem: &mut [u64],
+    pid: u64,
+    id: u64,
+    reason: u8,
+    time: u64,
+) -> Result<Done, Refused>
     ensures { record { reply = told result; memory = mem.new } ≡ notify_out mem.old pid id «reason» time }
 {
     let d = enter_world(mem)?;

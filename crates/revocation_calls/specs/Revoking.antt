@@ -10,7 +10,6 @@ use Rattle.revocation.specs.Log.{pair_of, absent_of}
 use Rattle.steps.specs.Replies.{Left, replied, done, refuse, Reply}
 use Rattle.revocation_steps.specs.Revocation.{log_of, log_step}
 use Rattle.steps.specs.Steps.{place_in, add_step}
-
 use Rattle.table.specs.declared.CapabilityEntry.{CapabilityEntry}
 use Rattle.token.specs.Rights.{REVOKE, holds}
 use Rattle.token.specs.Token.{id_of, generation_of}

@@ -23,8 +23,7 @@ use world::Numbers;
 use world::head::{EPOCH, LOGGED, REGISTERED};
 
 // The token's pair joins the log if absent, and the epoch counts one: all there is to revoke of an id that is not registered.
-#[tactic(auto, using(steps::proofs::laws::Ready::ready_at, revocation_steps::proofs::Pairs::token_pair, crate::proofs::laws::Each::joining),
-    unfolding(crate::specs::Revoking::logging_token, base::specs::Choose::when))]
+#[tactic(auto, using(steps::proofs::laws::Ready::ready_at, revocation_steps::proofs::Pairs::token_pair, crate::proofs::laws::Each::joining), unfolding(crate::specs::Revoking::logging_token, base::specs::Choose::when))]
 fn log_token(mem: &mut [u64], d: Numbers, token: CapabilityToken) -> Result<Done, Refused>
     requires { SoundAt d mem.old }
     ensures { record { reply = told result; memory = mem.new } ≡ logging_token d token.0 mem.old }
@@ -139,8 +138,7 @@ pub fn revoke_capability(
 
 /// The same of a token that a space holds with REVOKE. Where 26, 20 and 21 are not given, the space's own lookup comes first and is counted;
 /// the count is its visits. 8 for a token that is not held, 2 without REVOKE.
-#[tactic(auto, using(crate::proofs::laws::Kept::looked_up_sound),
-    unfolding(crate::specs::Calls::revoke_held_out, steps::specs::Enter::on_space, base::specs::Choose::when))]
+#[tactic(auto, using(crate::proofs::laws::Kept::looked_up_sound), unfolding(crate::specs::Calls::revoke_held_out, steps::specs::Enter::on_space, base::specs::Choose::when))]
 pub fn revoke_held(
     mem: &mut [u64],
     s: usize,

@@ -31,7 +31,7 @@ use Rattle.space.specs.Change.{inserted, insert_out}
 use Rattle.space.specs.Lookup.{exactly, looked_up, counted}
 use Rattle.space.specs.Sound.{space_test}
 use Rattle.space.specs.Words.{with_counts, with_table}
-use Rattle.steps.specs.Enter.{on_world, on_space}
+use Rattle.steps.specs.Enter.{entered_world, entered_space, on_world, on_space}
 use Rattle.steps.specs.Steps.{lookup_step, hold_step, insert_step, taken_id, take_step, register_step, list_step, add_step}
 use Rattle.table.specs.Insert.{insert_new, placed, made_room, crowded, room_for, rebuilt, place_all, emptied, live_entries}
 use Rattle.table.specs.Slots.{entry_at, put_entry}
@@ -72,7 +72,8 @@ unfolding width_of length_for start_of on_each in_range_test record_test open_he
 world = tt
 
 unfoldable pub look : Unit {0}
-unfolding counts_test head_test ids_test spaces_test has_entry spaces_with holders_test logged_test queues_test sound_test on_world on_space
+unfolding counts_test head_test ids_test spaces_test has_entry spaces_with holders_test logged_test queues_test sound_test entered_world
+    entered_space on_world on_space
 look = tt
 
 unfoldable pub steps : Unit {0}

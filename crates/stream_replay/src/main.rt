@@ -76,8 +76,9 @@ fn replay(records: &mut [u8], mem: &mut [u64]) -> bool {
 fn main() {
     let mut records = [0u8; 49200];
     let mut mem = [0u64; 5687];
-    let mut left = 1000u64;
-    while 0 < left && replay(&mut records, &mut mem) {
-        left -= 1;
+    for _stream in 0..1000 {
+        if !replay(&mut records, &mut mem) {
+            return;
+        }
     }
 }
