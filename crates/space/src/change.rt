@@ -18,6 +18,7 @@ fn holds_id(space: &Space<'_>, id: u64) -> bool
     space.search_id(id).found.is_some()
 }
 
+#[tactic(auto, using(crate::proofs::CodeChange::change_laws))]
 fn accept(sp: &mut [u64], entry: CapabilityEntry) -> usize
     requires { InRange sp.old × ((table_of sp.old).full < quota_of sp.old) }
     ensures sp_after { sp.new ≡ inserted sp.old entry }
@@ -69,6 +70,7 @@ pub fn remove(sp: &mut [u64], token: CapabilityToken) -> LookedUp
     answer
 }
 
+#[tactic(auto, unfolding(crate::specs::Change::cleared))]
 pub fn clear(sp: &mut [u64])
     requires { InRange sp.old }
     ensures { sp.new ≡ cleared sp.old }
@@ -76,6 +78,7 @@ pub fn clear(sp: &mut [u64])
     put_table(sp, CapTable::EMPTY);
 }
 
+#[tactic(auto, unfolding(crate::specs::Change::next_generation))]
 pub fn next_generation(sp: &mut [u64])
     requires { InRange sp.old }
     ensures { sp.new ≡ next_generation sp.old }

@@ -51,6 +51,7 @@ impl<'a> Space<'a> {
     }
 
     // The slot that holds exactly the token, and the slots that the search of its id visited.
+    #[tactic(auto, using(crate::proofs::CodeFind::find_laws))]
     pub fn exact(&self, token: CapabilityToken) -> Search
         ensures { result ≡ exact_search self.now.words.now token.0 }
     {
@@ -65,6 +66,7 @@ impl<'a> Space<'a> {
     }
 
     // The entry of an id, whatever its generation; not counted.
+    #[tactic(auto, using(crate::proofs::CodeFind::find_laws))]
     pub fn get_entry(&self, id: u64) -> LookedUp
         ensures { result ≡ got_entry self.now.words.now id }
     {

@@ -23,6 +23,7 @@ const REMOVED: usize = 7;
 // Where the slots of the table begin.
 pub const TABLE: usize = 8;
 
+#[tactic(auto, unfolding(crate::specs::Counters::with_counters))]
 pub fn put_counters(sp: &mut [u64], c: Counters)
     requires { 8 ≤ length sp.old }
     ensures { sp.new ≡ with_counters sp.old c }
@@ -42,6 +43,7 @@ pub fn table_of(sp: &[u64]) -> CapTable
     }
 }
 
+#[tactic(auto, unfolding(crate::specs::Words::with_counts))]
 pub fn put_table(sp: &mut [u64], t: CapTable)
     requires { 8 ≤ length sp.old }
     ensures { sp.new ≡ with_counts sp.old t }

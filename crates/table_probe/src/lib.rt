@@ -32,6 +32,7 @@ fn counts(numbers: &[usize; 4]) -> CapTable
     }
 }
 
+#[tactic(auto, unfolding(crate::specs::Numbers::keeps))]
 fn keep(table: CapTable, moved: usize, numbers: &mut [usize; 4])
     ensures { numbers.new ≡ keeps numbers.old table moved }
 {
@@ -41,6 +42,7 @@ fn keep(table: CapTable, moved: usize, numbers: &mut [usize; 4])
     numbers[3] = moved;
 }
 
+#[tactic(auto, unfolding(crate::specs::Numbers::entry_words))]
 fn put(entry: CapabilityEntry, out: &mut [u64; 4])
     ensures { out.new ≡ entry_words out.old entry }
 {

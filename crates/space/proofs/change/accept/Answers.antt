@@ -2,8 +2,5 @@
 use Rattle.space.proofs.CodeChange.{change_laws}
 use Rattle.space.proofs.change.accept.Goals as goal
 
-pub insert_new-s-requires : goal.insert_new-s-requires
-insert_new-s-requires c = search change_laws
-
 pub returns-clause-sp_after : goal.returns-clause-sp_after
 returns-clause-sp_after c = search change_laws

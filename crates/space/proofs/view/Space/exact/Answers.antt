@@ -2,11 +2,5 @@
 use Rattle.space.proofs.CodeFind.{find_laws}
 use Rattle.space.proofs.view.Space.exact.Goals as goal
 
-pub returns-in_default : goal.returns-in_default
-returns-in_default c = search find_laws
-
 pub whole-requires : goal.whole-requires
 whole-requires c = search find_laws
-
-pub returns : goal.returns
-returns c = search find_laws

@@ -4,6 +4,3 @@ use Rattle.space.proofs.view.Space.get_entry.Goals as goal
 
 pub entry_of-requires : goal.entry_of-requires
 entry_of-requires c = search find_laws
-
-pub returns : goal.returns
-returns c = search find_laws
