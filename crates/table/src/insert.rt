@@ -15,6 +15,7 @@ pub fn id_of(entry: CapabilityEntry) -> u64
 }
 
 // True where one entry more would leave more than 3/4 of the slots in use, removed ones counted: every walk is to meet an empty slot.
+#[tactic(auto, unfolding(crate::specs::Insert::crowded))]
 pub fn crowded(t: CapTable) -> bool
     requires { (t.slots ≤ 512) × (t.full ≤ 512) × (t.tombstones ≤ 512) }
     ensures { result ≡ crowded t }
@@ -31,6 +32,7 @@ pub fn slots_for(entries: usize) -> usize
 }
 
 // The slots of a rebuild of a table with `live` entries, which is to take one more.
+#[tactic(auto, unfolding(crate::specs::Insert::room_for))]
 fn room_for(live: usize) -> usize
     requires { live < 256 }
     ensures { (result ≡ room_for live) × (8 ≤ result) × (result ≤ 512) }
@@ -38,6 +40,7 @@ fn room_for(live: usize) -> usize
     slots_for(live + 1)
 }
 
+#[tactic(auto, using(crate::proofs::CodeRebuild::empty_laws))]
 fn empty_slots(words: &mut [u64], n: usize)
     requires { (n ≤ 512) × (4 * n ≤ length words.old) }
     ensures { words.new ≡ emptied words.old n }
@@ -136,7 +139,7 @@ pub fn place(words: &mut [u64], s: Inserted, entry: CapabilityEntry) -> Inserted
     requires { Placeable words.old s.table }
     ensures { leaves words.new result ≡ placed (leaves words.old s) entry }
 {
-    let t = s.table;
+    let Inserted { table: t, moved } = s;
     let table = Table {
         words,
         slots: t.slots,
@@ -150,11 +153,12 @@ pub fn place(words: &mut [u64], s: Inserted, entry: CapabilityEntry) -> Inserted
             tombstones,
             ..t
         },
-        moved: s.moved,
+        moved,
     }
 }
 
 // Insert an entry whose id is not present.
+#[tactic(auto, using(crate::proofs::CodeInsert::insert_laws))]
 pub fn insert_new(words: &mut [u64], t: CapTable, entry: CapabilityEntry) -> Inserted
     requires { Insertable words.old t }
     ensures { leaves words.new result ≡ insert_new words.old t entry }

@@ -71,6 +71,7 @@ impl<'a> Table<'a> {
     }
 
     // Most searches end at home, so home is looked at before any loop.
+    #[tactic(auto, using(crate::proofs::CodeWalk::home_laws))]
     pub fn find(&self, id: u64) -> Search
         ensures { result ≡ search self.now.words.now self.now.slots id }
     {

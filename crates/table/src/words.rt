@@ -28,6 +28,7 @@ pub fn id_at(words: &[u64], i: usize) -> u64
     CapabilityToken(words[4 * i]).id()
 }
 
+#[tactic(auto, unfolding(crate::specs::Slots::entry_at))]
 pub fn entry_at(words: &[u64], i: usize) -> CapabilityEntry
     requires { (i < 512) × (4 * i + 3 < length words.now) }
     ensures { result ≡ entry_at words.now i }
@@ -55,6 +56,7 @@ pub fn slot_at(words: &[u64], i: usize) -> Slot
     }
 }
 
+#[tactic(auto, unfolding(crate::specs::Slots::put_entry))]
 pub fn put_entry(words: &mut [u64], i: usize, entry: CapabilityEntry)
     requires { (i < 512) × (4 * i + 3 < length words.old) }
     ensures { words.new ≡ put_entry words.old i entry }
@@ -66,6 +68,7 @@ pub fn put_entry(words: &mut [u64], i: usize, entry: CapabilityEntry)
     words[at + 3] = 0x2_0000_0000 + entry.rights.0 as u64;
 }
 
+#[tactic(auto, unfolding(crate::specs::Slots::put_mark))]
 pub fn put_mark(words: &mut [u64], i: usize)
     requires { (i < 512) × (4 * i + 3 < length words.old) }
     ensures { words.new ≡ put_mark words.old i }

@@ -23,7 +23,7 @@ pub returns-then-slots-eq0-clause-value : goal.returns-then-slots-eq0-clause-val
 returns-then-slots-eq0-clause-value c = search (bare, nothing, rules)
 
 pub returns-then-slots-eq0-clause-words_after : goal.returns-then-slots-eq0-clause-words_after
-returns-then-slots-eq0-clause-words_after c = search (bare, nothing, rules)
+returns-then-slots-eq0-clause-words_after c = search (bare, rules)
 
 pub returns-clause-value : goal.returns-clause-value
 returns-clause-value c =

@@ -41,7 +41,7 @@ pub returns-then-t-gt1-clause-left_value : goal.returns-then-t-gt1-clause-left_v
 returns-then-t-gt1-clause-left_value c = search (stays, entry, rules)
 
 pub returns-then-t-gt1-clause-moved_value : goal.returns-then-t-gt1-clause-moved_value
-returns-then-t-gt1-clause-moved_value c = search (stays, entry, rules)
+returns-then-t-gt1-clause-moved_value c = search (stays, rules)
 
 pub returns-else-t-gt1-clause-left_value : goal.returns-else-t-gt1-clause-left_value
 returns-else-t-gt1-clause-left_value c = search (goes, entry, rules)
