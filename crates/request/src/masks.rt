@@ -61,6 +61,7 @@ fn too_far(r: Request, spaces: u64) -> bool
 }
 
 // 21 for an operation outside 1..15; 20; 21 for a field that is not read and not zero.
+#[tactic(auto, unfolding(crate::specs::Reading::verdict_of, base::specs::Choose::when))]
 pub fn judge(r: Request, spaces: u64) -> Result<(), Refusal>
     ensures { result ≡ verdict_of r spaces }
 {

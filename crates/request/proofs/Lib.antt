@@ -1,2 +1,0 @@
--- What the proofs of `request` share, and those of `request_run` take too.
-pub mod Chosen
