@@ -1,0 +1,2 @@
+-- Laws of `base` beside those of specs/.
+pub mod ShiftTurns
