@@ -2,7 +2,7 @@
 -- below n are to q, whether all or some pass, and which is the first, is asked of the numbers.
 use Rattle.std.specs.List.{position_or_len, position, list_all, list_any}
 use Rattle.std.specs.Option.{unwrap_or}
-use Rattle.std.proofs.Common.{◌≡◌, refl, ap, ◌∙◌, ℕ, zero, suc, ◌<◌, ◌≤◌, Bool, true, false, ◌&&◌, List, length, get_or, take, ltb, arith, le-ltb, lt-ltb}
+use Rattle.std.proofs.Common.{◌≡◌, refl, ◌∙◌, ℕ, zero, suc, ◌<◌, ◌≤◌, Bool, true, false, ◌&&◌, List, length, get_or, take, ltb, arith, le-ltb, lt-ltb}
 use Rattle.std.proofs.Math.Decide.{dec_lt}
 use Rattle.std.proofs.Math.Logic.{by_cases}
 use Rattle.std.proofs.Math.Seq.{take-suc, take-length}

@@ -9,8 +9,7 @@ use Rattle.base.specs.Cases.{pick_by_cases}
 use Rattle.steps.proofs.laws.ReadyKept.{ready_lookup}
 use Rattle.steps.specs.Ready.{Ready}
 use Rattle.steps.specs.Replies.{done}
-use Rattle.steps.specs.Steps.{space_of, lookup_step, place_in}
-use Rattle.token.specs.Token.{id_of}
+use Rattle.steps.specs.Steps.{space_of, lookup_step}
 use Rattle.token.specs.declared.capability.CapabilityToken.{CapabilityToken}
 use Rattle.world.specs.Sound.{ids}
 use Rattle.world.specs.declared.Numbers.{Numbers}

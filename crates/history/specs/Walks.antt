@@ -1,6 +1,6 @@
 -- Every walk over a table's slots that a call makes, for an id or for a free place: the live and removed entries that stand in the table
 -- when it begins, and the slots that it visits. A walk is named with the moment of the call at which it begins.
-use Rattle.std.specs.Prelude.{Bool, true, false, List, [], ◌∷◌, ◌≡◌, ℕ, suc, ◌+◌, ◌^◌, ◌≤◌, ◌<◌, None, Some, Option}
+use Rattle.std.specs.Prelude.{Bool, true, false, List, [], ◌∷◌, ◌≡◌, ℕ, suc, ◌+◌, ◌^◌, ◌≤◌, ◌<◌, None, Some}
 use Rattle.base.specs.Below.{sum, one}
 use Rattle.delegation_calls.specs.Delegation.{held_with, open_child, offered}
 use Rattle.manager_calls.specs.Tokens.{token_of, current}

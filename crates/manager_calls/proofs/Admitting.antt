@@ -3,7 +3,6 @@
 use Rattle.std.proofs.Common.{List, ◌≡◌, sym, ap, ◌∙◌, ℕ, ◌-◌, ◌<◌, ◌≤◌, arith, Result, Ok, Err}
 use Rattle.answers.specs.Answer.{Done, Refuses, OutOfMemory}
 use Rattle.answers.specs.NumberLaws.{refusal_some}
-use Rattle.base.specs.Choose.{pick}
 use Rattle.space.specs.Change.{InsertOut, insert_out}
 use Rattle.steps.proofs.laws.ReadyKept.{Stays, Leaves, register_leaves}
 use Rattle.steps.specs.Ready.{Ready}

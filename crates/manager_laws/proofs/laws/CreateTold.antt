@@ -1,6 +1,6 @@
 -- When each answer of create is given: 26 exactly on memory that is not sound, 20 exactly on a sound one for a space number of S or more,
 -- and 21, 5, 9, 22, 4 and 0 exactly in their stated cases.
-use Rattle.std.proofs.Common.{Bool, false, List, ◌↔◌, ◌≡◌, sym, ap, subst, ◌∙◌, ℕ, ◌≤◌, ◌<◌, eqb, Option, Some, None}
+use Rattle.std.proofs.Common.{Bool, false, List, ◌↔◌, ◌≡◌, sym, ap, subst, ◌∙◌, ℕ, ◌≤◌, ◌<◌, eqb, None}
 use Rattle.answers.specs.Number.{number_of}
 use Rattle.answers.specs.Answer.{Answer, Done, OutOfMemory, InvalidObject, IdExhausted, BadSpace, BadField, RegistryFull, BadWorld}
 use Rattle.space.proofs.laws.Insert.{Accepts}

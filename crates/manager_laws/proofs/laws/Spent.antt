@@ -1,6 +1,6 @@
 -- Spent ids: issued, and never given back. No step joins an issued id to the recycled ones but recycling it; an id that is taken was not
 -- spent, and giving it back frees no other; every registered id is spent.
-use Rattle.std.proofs.Common.{List, ◌↔◌, ◌≢◌, ◌⊎◌, ⊎_elim, ◌≡◌, sym, ap, subst, ◌∙◌, ℕ, suc, ◌+◌, ◌-◌, ◌*◌, ◌≤◌, ◌<◌, arith, length, set, Option, Some, None}
+use Rattle.std.proofs.Common.{List, ◌↔◌, ◌≢◌, ◌⊎◌, ⊎_elim, ◌≡◌, sym, ap, subst, ◌∙◌, ℕ, suc, ◌+◌, ◌-◌, ◌*◌, ◌≤◌, ◌<◌, arith, length, set, Some}
 use Rattle.registry.specs.Ids.{first_taken}
 use Rattle.registry.specs.IdsLaws.{length_taken, taken_recycled, recycled_with_has}
 use Rattle.base.specs.Distinct.{Among}

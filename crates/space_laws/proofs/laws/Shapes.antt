@@ -1,6 +1,6 @@
 -- When an answer is given, by the shape of the reply: 0 or 8 of what is looked for, 21 before them for an id that does not fit, 11, 7 or 0
 -- of an insert, 12 before them of a space's create. Told.antt says it of each call.
-use Rattle.std.proofs.Common.{List, ◌↔◌, ◌≢◌, ◌≡◌, refl, sym, ap, subst, ◌∙◌, ℕ, ◌^◌, ◌≤◌, ◌<◌, arith, Option, Some, None}
+use Rattle.std.proofs.Common.{List, ◌↔◌, ◌≢◌, ◌≡◌, refl, sym, ap, subst, ◌∙◌, ℕ, ◌^◌, ◌≤◌, ◌<◌, arith, Some, None}
 use Rattle.answers.specs.Number.{number_of}
 use Rattle.answers.specs.Answer.{Answer, Done, AlreadyExists, NotFound, SpaceQuota, SpaceIds, BadSpace, BadField, BadWorld}
 use Rattle.space.specs.Change.{InsertOut, insert_out}

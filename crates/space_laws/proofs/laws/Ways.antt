@@ -1,7 +1,7 @@
 -- The ways through the two calls that make a token of an id, the space-made create and the space revoke: what holds of each ending holds of
 -- the whole.
 use Rattle.std.proofs.Common.{List, ◌≡◌, refl, sym, subst, ℕ, ◌-◌, ◌^◌, ◌≤◌, ◌<◌, Result, Ok, Err, arith, ltb-true, ltb-false, ltb, Option, Some, None}
-use Rattle.answers.specs.Answer.{SpaceIds, BadSpace, BadField, BadWorld}
+use Rattle.answers.specs.Answer.{SpaceIds, BadSpace, BadWorld}
 use Rattle.space.specs.Words.{generation_of}
 use Rattle.space_calls.specs.Calls.{inserting, create_made, create_taken, create_out}
 use Rattle.steps.specs.Replies.{Left, refuse, Reply}
