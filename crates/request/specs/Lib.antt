@@ -1,5 +1,6 @@
 -- What the contracts of `request` cite.
 pub mod Record
+pub mod Op
 pub mod Reading
 pub mod ReadingLaws
 pub mod Made

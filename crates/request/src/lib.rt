@@ -4,13 +4,16 @@
 
 mod line;
 mod masks;
+mod op;
 mod record;
 
 pub use line::write_line;
 pub use masks::judge;
+pub use op::Op;
 pub use record::request_of;
 
-// A record, field by field; the flag of validity is a bit.
+// A record, field by field, each a number as it is read: the line of a refused record has the number of its operation, and a field that is
+// not read, the bit of validity too, is asked for zero like the others.
 #[derive(Clone, Copy, PartialEq, Eq, Debug)]
 pub struct Request {
     pub op: u64,

@@ -1,9 +1,10 @@
 //! The table of the fields that each operation reads, and what is refused by it.
-ghost use Rattle.std.specs.Prelude.{true, not, ◌≡◌, ◌%◌, ◌≤◌, eqb, ltb, get_or};
+ghost use Rattle.std.specs.Prelude.{true, not, ◌≡◌, ◌%◌, ◌≤◌, eqb, ltb, get_or, IfOk};
 ghost use Rattle.base.specs.Choose.{pick};
+ghost use Rattle.request.specs.Op.{number_of, forgotten};
 ghost use Rattle.request.specs.Reading.{masks, zero_unread, too_far, verdict_of};
 
-use super::Request;
+use super::{Op, Request};
 use answers::Refusal;
 
 // The fields that each operation reads, from 0 to 15, a bit a field, the lowest bit first: space, second space, valid, type, rights,
@@ -60,22 +61,18 @@ fn too_far(r: Request, spaces: u64) -> bool
     is_far(mask, r.space, spaces) || is_far(mask / 2, r.second, spaces)
 }
 
-// 21 for an operation outside 1..15; 20; 21 for a field that is not read and not zero.
-#[tactic(auto, unfolding(crate::specs::Reading::verdict_of, base::specs::Choose::when))]
-pub fn judge(r: Request, spaces: u64) -> Result<(), Refusal>
-    ensures { result ≡ verdict_of r spaces }
+// 21 for an operation outside 1..15; 20; 21 for a field that is not read and not zero. The operation of a good record.
+#[tactic(auto, unfolding(crate::specs::Op::named, crate::specs::Reading::verdict_of, base::specs::Choose::when))]
+pub fn judge(r: Request, spaces: u64) -> Result<Op, Refusal>
+    ensures verdict { forgotten result ≡ verdict_of r spaces }
+    ensures operation { IfOk result (λ op. number_of op ≡ r.op) }
 {
-    if r.op == 0 {
-        return Err(Refusal::BadField);
-    }
-    if 15 < r.op {
-        return Err(Refusal::BadField);
-    }
+    let op = Op::try_from(r.op)?;
     if too_far(r, spaces) {
         return Err(Refusal::BadSpace);
     }
     if !zero_unread(r) {
         return Err(Refusal::BadField);
     }
-    Ok(())
+    Ok(op)
 }

@@ -1,9 +1,10 @@
 // The call that a good record asks for.
 ghost use Rattle.std.specs.Prelude.{◌≡◌, ◌^◌, ◌<◌, ◌≤◌};
 ghost use Rattle.steps.specs.Replies.{told};
-ghost use Rattle.request_run.specs.Run.{drained, called_1_to_5, called_6_to_10, called_11_to_15, called, answered};
+ghost use Rattle.request.specs.Op.{number_of};
+ghost use Rattle.request_run.specs.Run.{drained, called, answered};
 
-use request::{Request, judge};
+use request::{Op, Request, judge};
 use steps::{Done, Refused};
 use token::{CapabilityToken, Rights};
 
@@ -22,93 +23,40 @@ fn drain(mem: &mut [u64], pid: u64) -> Result<Done, Refused>
     notification_calls::drain_notifications(mem, pid, &mut area)
 }
 
-// Create, delegate, lookup, check, remove.
-#[tactic(auto, unfolding(crate::specs::Run::called_1_to_5, base::specs::Choose::when))]
-fn call_1_to_5(r: Request, mem: &mut [u64]) -> Result<Done, Refused>
-    requires { (r.cap_type ≤ 15) × (r.rights < 2 ^ 32) }
-    ensures { record { reply = told result; memory = mem.new } ≡ called_1_to_5 r mem.old }
+// The call of an operation.
+#[tactic(auto, unfolding(crate::specs::Run::called, crate::specs::Run::called_1_to_5, crate::specs::Run::called_6_to_10, crate::specs::Run::called_11_to_15, base::specs::Choose::when))]
+fn call(op: Op, r: Request, mem: &mut [u64]) -> Result<Done, Refused>
+    requires { (number_of op ≡ r.op) × (r.cap_type ≤ 15) × (r.rights < 2 ^ 32) }
+    ensures { record { reply = told result; memory = mem.new } ≡ called r mem.old }
 {
     let s = r.space as usize;
+    let second = r.second as usize;
     let token = CapabilityToken(r.a);
     let rights = Rights(r.rights as u32);
-    if r.op == 1 {
-        return manager_calls::create_capability(
+    match op {
+        Op::Create => manager_calls::create_capability(
             mem,
             s,
             r.a,
             r.valid == 1,
             r.cap_type as u8,
             rights,
-        );
+        ),
+        Op::Delegate => delegation_calls::delegate(mem, token, s, second, rights),
+        Op::Lookup => space_reads::lookup(mem, s, token),
+        Op::Check => manager_calls::check_capability(mem, token, rights, s),
+        Op::Remove => space_calls::remove(mem, s, token),
+        Op::Delete => manager_calls::delete(mem, token),
+        Op::RevokeHeld => revocation_calls::revoke_held(mem, s, token, r.b, &PIDS),
+        Op::Clear => space_calls::clear(mem, s),
+        Op::Copy => space_calls::copy(mem, s, second),
+        Op::RevokeAll => space_calls::revoke_all(mem, s),
+        Op::Insert => space_calls::insert(mem, s, token, r.b, rights),
+        Op::CreateInSpace => space_calls::create_capability(mem, s, rights, r.a),
+        Op::RevokeInSpace => space_calls::revoke(mem, s, r.a),
+        Op::Drain => drain(mem, r.a),
+        Op::RevokeCapability => revocation_calls::revoke_capability(mem, token, r.b, &PIDS),
     }
-    if r.op == 2 {
-        return delegation_calls::delegate(mem, token, s, r.second as usize, rights);
-    }
-    if r.op == 3 {
-        return space_reads::lookup(mem, s, token);
-    }
-    if r.op == 4 {
-        return manager_calls::check_capability(mem, token, rights, s);
-    }
-    space_calls::remove(mem, s, token)
-}
-
-// Delete, held revoke, clear, copy, `revoke_all`.
-#[tactic(auto, unfolding(crate::specs::Run::called_6_to_10, base::specs::Choose::when))]
-fn call_6_to_10(r: Request, mem: &mut [u64]) -> Result<Done, Refused>
-    ensures { record { reply = told result; memory = mem.new } ≡ called_6_to_10 r mem.old }
-{
-    let s = r.space as usize;
-    if r.op == 6 {
-        return manager_calls::delete(mem, CapabilityToken(r.a));
-    }
-    if r.op == 7 {
-        return revocation_calls::revoke_held(mem, s, CapabilityToken(r.a), r.b, &PIDS);
-    }
-    if r.op == 8 {
-        return space_calls::clear(mem, s);
-    }
-    if r.op == 9 {
-        return space_calls::copy(mem, s, r.second as usize);
-    }
-    space_calls::revoke_all(mem, s)
-}
-
-// Insert, space-made create, space revoke, drain, `revoke_capability`.
-#[tactic(auto, unfolding(crate::specs::Run::called_11_to_15, base::specs::Choose::when))]
-fn call_11_to_15(r: Request, mem: &mut [u64]) -> Result<Done, Refused>
-    requires { r.rights < 2 ^ 32 }
-    ensures { record { reply = told result; memory = mem.new } ≡ called_11_to_15 r mem.old }
-{
-    let s = r.space as usize;
-    let rights = Rights(r.rights as u32);
-    if r.op == 11 {
-        return space_calls::insert(mem, s, CapabilityToken(r.a), r.b, rights);
-    }
-    if r.op == 12 {
-        return space_calls::create_capability(mem, s, rights, r.a);
-    }
-    if r.op == 13 {
-        return space_calls::revoke(mem, s, r.a);
-    }
-    if r.op == 14 {
-        return drain(mem, r.a);
-    }
-    revocation_calls::revoke_capability(mem, CapabilityToken(r.a), r.b, &PIDS)
-}
-
-#[tactic(auto, unfolding(crate::specs::Run::called, base::specs::Choose::when))]
-fn call(r: Request, mem: &mut [u64]) -> Result<Done, Refused>
-    requires { (r.cap_type ≤ 15) × (r.rights < 2 ^ 32) }
-    ensures { record { reply = told result; memory = mem.new } ≡ called r mem.old }
-{
-    if r.op < 6 {
-        return call_1_to_5(r, mem);
-    }
-    if r.op < 11 {
-        return call_6_to_10(r, mem);
-    }
-    call_11_to_15(r, mem)
 }
 
 // A record is refused before its call, or its call is made.
@@ -117,6 +65,6 @@ pub fn answer(r: Request, mem: &mut [u64]) -> Result<Done, Refused>
     requires { (r.cap_type ≤ 15) × (r.rights < 2 ^ 32) }
     ensures { record { reply = told result; memory = mem.new } ≡ answered r mem.old }
 {
-    judge(r, SPACES)?;
-    call(r, mem)
+    let op = judge(r, SPACES)?;
+    call(op, r, mem)
 }
