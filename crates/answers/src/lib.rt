@@ -1,5 +1,5 @@
 //! Why a call refuses: the source's refusals and those that the port adds, each with its number.
-//! specs/Answer.antt has the whole table of answers, with 0 for a call that is done.
+//! specs/Answer.antt has the whole table of answers, with Done for a call that is done, and specs/Number.antt their numbers.
 #![tactic(auto)]
 
 /// Why a call refuses. The discriminant is the number that hosts see; 0 is the answer of a call that is done.

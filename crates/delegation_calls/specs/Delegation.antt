@@ -11,7 +11,6 @@ use Rattle.space.specs.Lookup.{looked_up}
 use Rattle.steps.specs.Enter.{on_space}
 use Rattle.steps.specs.Replies.{Left, done, refuse, Reply}
 use Rattle.steps.specs.Steps.{space_of, lookup_step, taken_id, take_step, place_in, objects, register_step, list_step, recycle_step, collect_step, children_of}
-
 use Rattle.table.specs.declared.CapabilityEntry.{CapabilityEntry}
 use Rattle.token.specs.Rights.{GRANT, holds, common}
 use Rattle.token.specs.Token.{id_of, type_of}

@@ -58,9 +58,9 @@ fn delegate_from(
     offer_or_derive(mem, d, target, token, held.intersection(rights))
 }
 
-/// The source's `delegate`: the value is the token, the count how many entries its insert moved. 1 for a token that the source space does not
-/// hold or that is not registered, 3 for one that is revoked, 6 without GRANT, 9, 10, 22 or 4 where an id, the parent's list, the registry or
-/// the target space has no room.
+/// The source's `delegate`: the value is the token, the count how many entries its insert moved. 1 for a token that the source space does
+/// not hold or that is not registered, 3 for one that is revoked or of another generation, 6 without GRANT, 9, 10, 22 or 4 where an id, the
+/// parent's list, the registry or the target space has no room.
 #[tactic(auto, unfolding(crate::specs::Delegation::delegate_out, steps::specs::Enter::on_space, base::specs::Choose::when))]
 pub fn delegate(
     mem: &mut [u64],

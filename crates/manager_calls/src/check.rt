@@ -35,8 +35,8 @@ fn grants(l: LookedUp, required: Rights) -> bool
     }
 }
 
-/// Looks the token up in the space, counted, and checks its entry: 2 where it has not all the rights required, then 3 where the token is not
-/// registered, revoked or of another generation. The count is the slots visited, on these refusals too.
+/// Looks the token up in the space, counted, and checks its entry: 2 where it has not all the rights required, then 3 where the token is
+/// not registered, revoked or of another generation. The count is the slots visited, on these refusals too.
 #[tactic(auto, using(steps::proofs::laws::ReadyKept::ready_lookup), unfolding(crate::specs::Calls::check_out, steps::specs::Enter::on_space, base::specs::Choose::when))]
 pub fn check_capability(
     mem: &mut [u64],

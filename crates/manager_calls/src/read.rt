@@ -24,8 +24,8 @@ pub fn stats(mem: &[u64]) -> Result<ManagerStats, Refusal>
     })
 }
 
-/// The children of an id in list order, to the front of `area`; the value is how many. 21 for an id of more than 48 bits, or an area that is
-/// too short for them.
+/// The children of an id in list order, to the front of `area`; the value is how many. 21 for an id of more than 48 bits, or an area that
+/// is too short for them.
 #[tactic(auto, using(crate::proofs::Listing::listing), unfolding(crate::specs::Calls::children_out, steps::specs::Enter::on_world, steps::specs::Replies::into_area, base::specs::Choose::when))]
 pub fn get_children(mem: &[u64], id: u64, area: &mut [u64]) -> Result<Done, Refused>
     ensures { record { reply = told result; area = area.new } ≡ children_out mem.now id area.old }

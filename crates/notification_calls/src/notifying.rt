@@ -21,8 +21,8 @@ fn has_no_place(mem: &[u64], d: Numbers, pid: u64) -> bool
     d.queues <= queue_for(mem, d, pid) && d.queues <= free_queue(mem, d)
 }
 
-/// One notice for a pid, by the number of its reason. 21 for an id of more than 48 bits or a number of no reason, 25 where the pid has no queue
-/// and none is free.
+/// One notice for a pid, by the number of its reason. 21 for an id of more than 48 bits or a number of no reason, 25 where the pid has no
+/// queue and none is free.
 #[tactic(auto, using(steps::proofs::laws::Ready::queues_ready_at), unfolding(crate::specs::Calls::notify_out, steps::specs::Enter::on_world, base::specs::Choose::when))]
 pub fn notify_process(
     mem: &mut [u64],

@@ -3,7 +3,7 @@
 
 ghost use Rattle.std.specs.Prelude.{◌≡◌, ◌≤◌, length};
 ghost use Rattle.base.specs.Written.{written};
-ghost use Rattle.revocation.specs.Reason.{HasNumber, Names, name_of};
+ghost use Rattle.revocation.specs.Reason.{HasNumber, Names, name_of, reason_of};
 
 use answers::Refusal;
 
@@ -33,6 +33,18 @@ impl From<RevocationReason> for u8 {
     }
 }
 
+// The reason that has a number of 0 to 3, for any other number the last.
+pub fn reason_of(number: u8) -> RevocationReason
+    ensures { result ≡ reason_of number }
+{
+    match number {
+        0 => RevocationReason::Explicit,
+        1 => RevocationReason::ParentRevoked,
+        2 => RevocationReason::ProcessExit,
+        _ => RevocationReason::PolicyEnforced,
+    }
+}
+
 // The reason that has a number; `BadField` for a number that none has.
 impl TryFrom<u8> for RevocationReason {
     type Error = Refusal;
@@ -40,13 +52,10 @@ impl TryFrom<u8> for RevocationReason {
     ghost try_from_gives = { Names };
 
     fn try_from(number: u8) -> Result<Self, Refusal> {
-        match number {
-            0 => Ok(Self::Explicit),
-            1 => Ok(Self::ParentRevoked),
-            2 => Ok(Self::ProcessExit),
-            3 => Ok(Self::PolicyEnforced),
-            _ => Err(Refusal::BadField),
+        if 3 < number {
+            return Err(Refusal::BadField);
         }
+        Ok(reason_of(number))
     }
 }
 

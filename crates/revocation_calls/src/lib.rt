@@ -96,8 +96,8 @@ fn revoke_each(mem: &mut [u64], d: Numbers, tokens: &[u64], time: u64, listed: &
     gave
 }
 
-/// The manager's `revoke`, of a token's id and all its descendants; `listed` are the processes that are told. 21 for more than 32 processes,
-/// 1 for an id that is not registered, 24 or 25 where the log or the queues have no room.
+/// The manager's `revoke`, of a token's id and all its descendants; `listed` are the processes that are told. 21 for more than 32
+/// processes, 1 for an id that is not registered, 24 or 25 where the log or the queues have no room.
 #[tactic(auto, unfolding(crate::specs::Calls::revoke_out, steps::specs::Enter::on_world, base::specs::Choose::when))]
 pub fn revoke(
     mem: &mut [u64],
@@ -136,8 +136,8 @@ pub fn revoke_capability(
     revoke_token(mem, d, token, time, listed)
 }
 
-/// The same of a token that a space holds with REVOKE. Where 26, 20 and 21 are not given, the space's own lookup comes first and is counted;
-/// the count is its visits. 8 for a token that is not held, 2 without REVOKE.
+/// The same of a token that a space holds with REVOKE. Where 26, 20 and 21 are not given, the space's own lookup comes first and is
+/// counted; the count is its visits. 8 for a token that is not held, 2 without REVOKE.
 #[tactic(auto, using(crate::proofs::laws::Kept::looked_up_sound), unfolding(crate::specs::Calls::revoke_held_out, steps::specs::Enter::on_space, base::specs::Choose::when))]
 pub fn revoke_held(
     mem: &mut [u64],

@@ -30,7 +30,7 @@ pub fn is_revoked(mem: &[u64], token: CapabilityToken) -> Result<Done, Refused>
     Ok(Done::with(logged as u64))
 }
 
-/// The log's epoch: how often a revocation was logged.
+/// The epoch: how many revocations there were, in 64 bits, wrapping; one of a token that is logged already counts too.
 #[tactic(auto, unfolding(crate::specs::Calls::epoch_out, steps::specs::Enter::on_world))]
 pub fn epoch(mem: &[u64]) -> Result<Done, Refused>
     ensures { told result ≡ epoch_out mem.now }

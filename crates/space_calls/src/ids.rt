@@ -37,13 +37,20 @@ fn create_with(
         ≡ create_taken d s rights.0 object mem.old (Some id) }
 {
     let generation = spaces::facts(mem, d, s).generation;
-    let token = CapabilityToken::from_id_and_generation(id, generation).map_err(|_| Refusal::SpaceIds)?;
+    let token = CapabilityToken::from_id_and_generation(id, generation).map_err(
+        |_| Refusal::SpaceIds,
+    )?;
     spaces::insert(mem, d, s, token, object, rights, id)
 }
 
 /// The source's `create_capability`: the value is the id. 12 where none is left; the id is lost where the insert is refused.
 #[tactic(auto, using(steps::proofs::laws::ReadyKept::ready_take), unfolding(crate::specs::Calls::create_out, steps::specs::Enter::on_space))]
-pub fn create_capability(mem: &mut [u64], s: usize, rights: Rights, object: u64) -> Result<Done, Refused>
+pub fn create_capability(
+    mem: &mut [u64],
+    s: usize,
+    rights: Rights,
+    object: u64,
+) -> Result<Done, Refused>
     ensures { record { reply = told result; memory = mem.new } ≡ create_out mem.old s rights.0 object }
 {
     let d = enter_space(mem, s)?;
@@ -51,7 +58,8 @@ pub fn create_capability(mem: &mut [u64], s: usize, rights: Rights, object: u64)
     create_with(mem, d, s, rights, object, id)
 }
 
-/// Removes exactly the token that the space would have made of the id. 21 for an id of more than 48 bits, 8 where the space does not hold it.
+/// Removes exactly the token that the space would have made of the id. 21 for an id of more than 48 bits, 8 where the space does not hold
+/// it.
 #[tactic(auto, unfolding(crate::specs::Calls::revoke_out, steps::specs::Enter::on_space, steps::specs::Steps::facts_of))]
 pub fn revoke(mem: &mut [u64], s: usize, id: u64) -> Result<Done, Refused>
     ensures { record { reply = told result; memory = mem.new } ≡ revoke_out mem.old s id }

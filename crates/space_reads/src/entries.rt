@@ -27,7 +27,11 @@ pub fn lookup(mem: &mut [u64], s: usize, token: CapabilityToken) -> Result<Done,
 
 /// The same with the whole entry, as it was before this use.
 #[tactic(auto, unfolding(crate::specs::Calls::lookup_entry_out, steps::specs::Enter::on_space))]
-pub fn lookup_entry(mem: &mut [u64], s: usize, token: CapabilityToken) -> Result<FoundEntry, Refused>
+pub fn lookup_entry(
+    mem: &mut [u64],
+    s: usize,
+    token: CapabilityToken,
+) -> Result<FoundEntry, Refused>
     ensures { record { reply = told_entry result; memory = mem.new } ≡ lookup_entry_out mem.old s token.0 }
 {
     let d = enter_space(mem, s)?;

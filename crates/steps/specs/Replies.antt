@@ -33,7 +33,7 @@ abbrev pub told : Result DoneReply Refused → Reply
 told (Ok r) = replied Done r.value r.count
 told (Err r) = replied (Refuses r.refusal) 0 r.count
 
--- A refusal that comes before any search has visited nothing.
+-- A refusal alone has the count 0.
 abbrev pub Unvisited : Refusal → Refused → Type 0
 Unvisited refusal refused = refused ≡ record { refusal = refusal; count = 0 }
 

@@ -10,7 +10,7 @@ pub struct Done {
     pub count: usize,
 }
 
-/// Why a call refuses, and the slots that its search visited before.
+/// Why a call refuses, and the count that it answers: a check's and a held revoke's visits, else 0.
 #[derive(Clone, Copy, PartialEq, Eq, Debug)]
 pub struct Refused {
     pub refusal: Refusal,
@@ -18,7 +18,7 @@ pub struct Refused {
 }
 
 impl Done {
-    /// A value alone: nothing was visited or moved.
+    /// A value alone, with the count 0.
     pub fn with(value: u64) -> Done
         ensures { result ≡ record { value = value; count = 0 } }
     {
@@ -27,7 +27,7 @@ impl Done {
 }
 
 impl Refused {
-    /// A refusal after a search.
+    /// A refusal whose count is the visits of a search.
     pub fn after(refusal: Refusal, visits: usize) -> Refused
         ensures { result ≡ record { refusal = refusal; count = visits } }
     {
@@ -38,7 +38,7 @@ impl Refused {
     }
 }
 
-/// A refusal that comes before any search.
+/// A refusal whose count is 0.
 impl From<Refusal> for Refused {
     ghost use Rattle.steps.specs.Replies.{Unvisited};
 

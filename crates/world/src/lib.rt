@@ -1,5 +1,5 @@
-//! The world: the memory that the caller lends, how it is cut into regions, and how it is opened. The one look over it that every call takes
-//! first is in `world_look`.
+//! The world: the memory that the caller lends, how it is cut into regions, and how it is opened. The one look over it that every call
+//! takes first is in `world_look`.
 #![tactic(auto)]
 
 pub mod head;

@@ -1,5 +1,6 @@
 -- A record's call keeps a sound memory sound and is not given 26; so a run on an opened memory is sound throughout and prints no 26.
-use Rattle.std.proofs.Common.{Bool, List, ◌↔◌, ◌≢◌, ◌≡◌, refl, subst, sym, ap, ◌∙◌, ℕ, zero, suc, ◌*◌, ◌^◌, ◌≤◌, ◌<◌, arith, eqb, length, ⊤, Result}
+use Rattle.std.specs.Prelude.{⊤}
+use Rattle.std.proofs.Common.{Bool, List, ◌↔◌, ◌≢◌, ◌≡◌, refl, subst, sym, ap, ◌∙◌, ℕ, zero, suc, ◌*◌, ◌^◌, ◌≤◌, ◌<◌, arith, eqb, length, Result}
 use Rattle.answers.specs.declared.Refusal.{Refusal}
 use Rattle.answers.specs.Number.{number_of}
 use Rattle.answers.specs.Answer.{Answer, BadSpace, BadField, BadWorld}
