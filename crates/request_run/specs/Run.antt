@@ -67,6 +67,11 @@ called_11_to_15 r mem =
 unfoldable pub called : Request → List ℕ → Left Reply
 called r mem = when (ltb r.op 6) (called_1_to_5 r mem) (when (ltb r.op 11) (called_6_to_10 r mem) (called_11_to_15 r mem))
 
+-- To unfold this name is to unfold the choice among all calls.
+unfoldable pub choices : Unit {0}
+unfolding called called_1_to_5 called_6_to_10 called_11_to_15 when
+choices = tt
+
 -- A record is refused before its call, or its call is made, in the program's world, which is sound and has 4 spaces (`run_stays`).
 abbrev pub judged : Result ⊤ Refusal → Request → List ℕ → Left Reply
 judged (Err refusal) r mem = refuse mem (Refuses refusal)

@@ -24,7 +24,7 @@ fn drain(mem: &mut [u64], pid: u64) -> Result<Done, Refused>
 }
 
 // The call of an operation.
-#[tactic(auto, unfolding(crate::specs::Run::called, crate::specs::Run::called_1_to_5, crate::specs::Run::called_6_to_10, crate::specs::Run::called_11_to_15, base::specs::Choose::when))]
+#[tactic(auto, unfolding(crate::specs::Run::choices))]
 fn call(op: Op, r: Request, mem: &mut [u64]) -> Result<Done, Refused>
     requires { (number_of op ≡ r.op) × (r.cap_type ≤ 15) × (r.rights < 2 ^ 32) }
     ensures { record { reply = told result; memory = mem.new } ≡ called r mem.old }
