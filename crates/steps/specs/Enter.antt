@@ -1,5 +1,5 @@
--- What a call meets first, the order of refusals: 26 on memory that is not sound, then 20 for a space number of S or more, then what the call
--- does there. The code sees it as a Result, and hands a refusal on.
+-- What a call meets first, the order of refusals: 26 on memory that is not sound, then 20 for a space number of S or more, then what the
+-- call does there. The code sees it as a Result, and hands a refusal on.
 use Rattle.std.specs.Prelude.{ℕ, not, List, nat_lt, Result, Ok, Err}
 use Rattle.answers.specs.Answer.{Answer, Refuses}
 use Rattle.answers.specs.declared.Refusal.{Refusal}

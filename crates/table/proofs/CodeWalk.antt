@@ -141,7 +141,8 @@ module _ (ws : List ℕ) (slots id i : ℕ) (home : i ≡ home_of id slots) wher
 
     pub home_goes :
         (b z : Bool) (j : ℕ) (rest : Search) → b ≡ both (is_live ws i) (eqb (id_at ws i) id) → b ≡ false → z ≡ is_empty ws i → z ≡ false
-        → j ≡ (i + 1) % slots → rest ≡ search_from ws slots id j (slots - 1) → record { found = rest.found; visits = rest.visits + 1 } ≡ search ws slots id
+        → j ≡ (i + 1) % slots → rest ≡ search_from ws slots id j (slots - 1)
+        → record { found = rest.found; visits = rest.visits + 1 } ≡ search ws slots id
     unfolding later
     home_goes b z j rest e no' f some next answer =
         sym (find_goes ws slots id slots 0 i (search ws slots id) home_starts l (omega arith) b z j e no' f some next ∙ rw (← answer))

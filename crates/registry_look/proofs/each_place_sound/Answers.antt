@@ -108,7 +108,8 @@ bounds-counts-p-in-loop-k c = search laws
 
 pub loop-k-preserved : goal.loop-k-preserved
 loop-k-preserved c =
-    let short : get_or c.loop-k.counts (link_at c.args.registry.now.places c.args.registry.now.words.now c.loop-k.k - 1) 0 < 1024 = omega arith in
+    let short : get_or c.loop-k.counts (link_at c.args.registry.now.places c.args.registry.now.words.now c.loop-k.k - 1) 0 < 1024 =
+    omega arith in
     search (laws, short)
 
 pub returns : goal.returns

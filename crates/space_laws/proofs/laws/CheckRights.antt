@@ -17,7 +17,8 @@ use Rattle.space_laws.proofs.laws.Holding.{Holding}
 abbrev Granted : ℕ → Option CapabilityEntry → Type 0
 Granted required got = (x : CapabilityEntry) × ((got ≡ Some x) × (holds x.rights.0 required ≡ true))
 
-held_exactly : (required : ℕ) (got : Option CapabilityEntry) (visits : ℕ) → ((held_reply required got visits).value ≡ 1) ↔ Granted required got
+held_exactly : (required : ℕ) (got : Option CapabilityEntry) (visits : ℕ)
+    → ((held_reply required got visits).value ≡ 1) ↔ Granted required got
 held_exactly required (Some e) visits = (
   λ is. (e, (refl, (one_exactly (holds e.rights.0 required)).0 is)),
   λ (x, (same, h)). let is : e ≡ x = cc in (one_exactly (holds e.rights.0 required)).1 (rw is h),

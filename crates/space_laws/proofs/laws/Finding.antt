@@ -34,7 +34,8 @@ past_length (x ∷ es) (suc n) e = omega (arith, past_length es n e)
 
 module _ (most : ℕ) (sp : List ℕ) (is : SpaceOf most sp) where
   pub token_by_cases :
-      (token : ℕ) (P : Option CapabilityEntry → Type 0) → (HasToken sp token → (x : CapabilityEntry) → P (Some x)) → (¬ HasToken sp token → P None)
+      (token : ℕ) (P : Option CapabilityEntry → Type 0) → (HasToken sp token → (x : CapabilityEntry) → P (Some x))
+      → (¬ HasToken sp token → P None)
       → P (looked_up sp token).got
   token_by_cases token P there absent = go (looked_up sp token).got refl
     where
@@ -57,7 +58,8 @@ module _ (most : ℕ) (sp : List ℕ) (is : SpaceOf most sp) where
         (lacks_iff ws (table_of sp).slots id).0 lacks x h same
 
     pub id_by_cases :
-        (P : Option CapabilityEntry → Type 0) → (HasId sp id → (x : CapabilityEntry) → P (Some x)) → (¬ HasId sp id → P None) → P (got_entry sp id).got
+        (P : Option CapabilityEntry → Type 0) → (HasId sp id → (x : CapabilityEntry) → P (Some x)) → (¬ HasId sp id → P None)
+        → P (got_entry sp id).got
     unfolding got_entry
     id_by_cases P there absent = go (search_id sp id).found refl
       where

@@ -60,7 +60,8 @@ module _ (d : Numbers) (s : ℕ) (mem : List ℕ) where
       → remove_step d s token mem ≡ mem
   missed_remove value token visits = go (looked_up sp token).got refl
     where
-      go : (g : Option CapabilityEntry) → (looked_up sp token).got ≡ g → (found_reply value g visits).answer ≢ Done → remove_step d s token mem ≡ mem
+      go : (g : Option CapabilityEntry) → (looked_up sp token).got ≡ g → (found_reply value g visits).answer ≢ Done
+          → remove_step d s token mem ≡ mem
       go (Some e) is not_done = absurd (not_done refl)
       go None is not_done = absent_remove token is
 

@@ -123,7 +123,8 @@ module _ (d : Numbers) (mem : List ℕ) (sound : SoundAt d mem) where
         after : List ℕ
         after = on_region d (space s) (λ sp. removed_token sp token) mem
 
-        go : (g : Option CapabilityEntry) → (looked_up sp token).got ≡ g → Kept d mem (pick (is_some g) (release_step d n (token % 2 ^ 48) after) after)
+        go : (g : Option CapabilityEntry) → (looked_up sp token).got ≡ g
+            → Kept d mem (pick (is_some g) (release_step d n (token % 2 ^ 48) after) after)
         go (Some x) h =
             step_kept d s (λ sp. removed_token sp token) (released d.places n (token % 2 ^ 48)) mem sound
             (record {

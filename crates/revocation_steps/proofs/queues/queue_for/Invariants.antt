@@ -7,4 +7,6 @@ use Rattle.revocation_steps.specs.Revocation.{queue_for}
 use Rattle.revocation_steps.proofs.queues.queue_for.Given as goal
 
 abbrev pub invariant-loop-q : goal.invariant-loop-q
-invariant-loop-q l = queue_for l.d l.mem l.pid ≡ first_from (λ q. both (ltb 0 (lengths l.d l.mem q)) (eqb (pids l.d l.mem q) l.pid)) (l.d.queues - l.q) l.q
+invariant-loop-q l =
+    queue_for l.d l.mem l.pid
+    ≡ first_from (λ q. both (ltb 0 (lengths l.d l.mem q)) (eqb (pids l.d l.mem q) l.pid)) (l.d.queues - l.q) l.q

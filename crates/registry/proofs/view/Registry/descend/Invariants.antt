@@ -1,4 +1,5 @@
--- `registry::view::Registry::descend` meets its contract: with the children of the places from `at` on behind those found, it becomes the answer.
+-- `registry::view::Registry::descend` meets its contract: with the children of the places from `at` on behind those found, it becomes
+-- the answer.
 use Rattle.std.proofs.Common.{◌≡◌, ℕ, ◌-◌, ◌≤◌, List, length, take}
 use Rattle.registry.specs.Words.{link_at}
 use Rattle.registry.specs.Sound.{Linked}

@@ -16,5 +16,9 @@ child_listed places n k rg l =
 
 pub returns : goal.returns
 returns c =
-    let found : c.contains.result ≡ list_any (λ x. eqb x (c.args.k + 1)) (take (3 * c.args.self.now.places + c.args.self.now.count - 3 * c.args.self.now.places) (drop (3 * c.args.self.now.places) c.args.self.now.words.now)) = search rules in
+    let found : c.contains.result
+    ≡ list_any (λ x. eqb x (c.args.k + 1))
+    (take (3 * c.args.self.now.places + c.args.self.now.count - 3 * c.args.self.now.places)
+    (drop (3 * c.args.self.now.places) c.args.self.now.words.now)) =
+    search rules in
     found ∙ child_listed _ _ _ _ (omega arith)

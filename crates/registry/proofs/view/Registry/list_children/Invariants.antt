@@ -1,5 +1,5 @@
--- `registry::view::Registry::list_children` meets its contract: with the children from place k on written behind those before, the area becomes
--- the answer.
+-- `registry::view::Registry::list_children` meets its contract: with the children from place k on written behind those before, the area
+-- becomes the answer.
 use Rattle.std.proofs.Common.{◌≡◌, ℕ, ◌+◌, ◌-◌, ◌≤◌, List, length}
 use Rattle.std.proofs.Math.Seq.{sets}
 use Rattle.base.specs.Written.{written}

@@ -44,7 +44,8 @@ module _ (places n : ℕ) (rg firsts₀ nexts₀ firsts nexts : List ℕ) (at : 
       first_room : link - 1 < length firsts
       first_room = omega (arith, small, listing.lists.firsts_room)
 
-      child : Listing places n rg firsts₀ nexts₀ (set firsts (link - 1) (at - 1 + 1)) (set nexts (at - 1) (get_or firsts (link - 1) 0)) (at - 1)
+      child : Listing places n rg firsts₀ nexts₀ (set firsts (link - 1) (at - 1 + 1))
+          (set nexts (at - 1) (get_or firsts (link - 1) 0)) (at - 1)
       child =
           let named : link ≡ suc (link - 1) = omega arith in
           let more = lists_child places n rg firsts nexts (at - 1) this so_far listing.linked (link - 1) named in

@@ -17,4 +17,5 @@ known ids count ws slots i = take count ids ++ ids_of (live_entries ws i (slots 
 abbrev pub invariant-loop-i : goal.invariant-loop-i
 invariant-loop-i l =
     (l.count ≤ l.i) × (length l.ids ≡ length l.initial.ids)
-    × (known l.ids l.count (lent l.self.words.now) (table_of l.self.words.now).slots l.i ≡ ids_of (live_entries (lent l.self.words.now) 0 (table_of l.self.words.now).slots))
+    × (known l.ids l.count (lent l.self.words.now) (table_of l.self.words.now).slots l.i
+    ≡ ids_of (live_entries (lent l.self.words.now) 0 (table_of l.self.words.now).slots))

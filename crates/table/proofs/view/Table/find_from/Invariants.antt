@@ -1,5 +1,5 @@
--- `table::view::Table::find_from` meets its contract. The invariant: after `passed` visits the search goes on at slot i, and answers that many
--- visits more than the search from there on.
+-- `table::view::Table::find_from` meets its contract. The invariant: after `passed` visits the search goes on at slot i, and answers that
+-- many visits more than the search from there on.
 use Rattle.std.proofs.Common.{◌≡◌, ◌-◌, ◌<◌}
 use Rattle.table.specs.Walk.{search_from}
 use Rattle.table.proofs.CodeWalk.{later}

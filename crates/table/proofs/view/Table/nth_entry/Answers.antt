@@ -25,26 +25,28 @@ module _ (ws : List ℕ) (slots i : ℕ) (l : i < slots) (s : Slot) (is : s ≡ 
   unfolding live_entries
   other tag = rw (more, add-one, other_slot ws i s is tag)
 
-module _ (ws : List ℕ) (slots i past : ℕ) (answer : Option CapabilityEntry) (left : nth_of (live_entries ws i (slots - i)) past ≡ answer) where
-  passes : (s : Slot) → i < slots → s ≡ slot_at ws i → Other s → nth_of (live_entries ws (i + 1) (slots - (i + 1))) past ≡ answer
-  passes s l is tag = rw (other ws slots i l s is tag) at left
+module _ (ws : List ℕ) (slots i past : ℕ) (answer : Option CapabilityEntry)
+    (left : nth_of (live_entries ws i (slots - i)) past ≡ answer)
+  where
+    passes : (s : Slot) → i < slots → s ≡ slot_at ws i → Other s → nth_of (live_entries ws (i + 1) (slots - (i + 1))) past ≡ answer
+    passes s l is tag = rw (other ws slots i l s is tag) at left
 
-  counts : (s : Slot) (e : CapabilityEntry) → i < slots → s ≡ slot_at ws i → s ≡ Full e → ¬ (past ≡ 0)
-      → nth_of (live_entries ws (i + 1) (slots - (i + 1))) (past - 1) ≡ answer
-  unfolding nth_of
-  counts s e l is full some =
-      let down : past ≡ suc (past - 1) = omega arith in
-      sym (ap (nth_of (e ∷ live_entries ws (i + 1) (slots - (i + 1)))) down) ∙ (rw (live ws slots i l s is e full) at left)
+    counts : (s : Slot) (e : CapabilityEntry) → i < slots → s ≡ slot_at ws i → s ≡ Full e → ¬ (past ≡ 0)
+        → nth_of (live_entries ws (i + 1) (slots - (i + 1))) (past - 1) ≡ answer
+    unfolding nth_of
+    counts s e l is full some =
+        let down : past ≡ suc (past - 1) = omega arith in
+        sym (ap (nth_of (e ∷ live_entries ws (i + 1) (slots - (i + 1)))) down) ∙ (rw (live ws slots i l s is e full) at left)
 
-  here : (s : Slot) (e : CapabilityEntry) → i < slots → s ≡ slot_at ws i → s ≡ Full e → past ≡ 0 → Some e ≡ answer
-  unfolding nth_of
-  here s e l is full none = rw (live ws slots i l s is e full, none) at left
+    here : (s : Slot) (e : CapabilityEntry) → i < slots → s ≡ slot_at ws i → s ≡ Full e → past ≡ 0 → Some e ≡ answer
+    unfolding nth_of
+    here s e l is full none = rw (live ws slots i l s is e full, none) at left
 
-  ends : slots ≤ i → None ≡ answer
-  unfolding live_entries nth_of
-  ends l =
-      let none : slots - i ≡ 0 = omega arith in
-      rw none at left
+    ends : slots ≤ i → None ≡ answer
+    unfolding live_entries nth_of
+    ends l =
+        let none : slots - i ≡ 0 = omega arith in
+        rw none at left
 
 ruleset nth_laws = (starts, passes, counts, here, ends, rules)
 
