@@ -96,7 +96,7 @@ fn insert_entry(
 }
 
 /// A new entry. If it is accepted its holder is counted, and the value answered; the count is how many entries its rebuild moved.
-#[tactic(auto, using(steps::proofs::ChangingEntries::accepted_reply, steps::proofs::ChangingEntries::refused_reply))]
+#[tactic(auto, using(steps::proofs::ChangingEntries::accepted_reply, steps::proofs::ChangingEntries::refused_reply), unfolding(steps::specs::Steps::insert_step, space::specs::Change::insert_out, base::specs::Choose::when))]
 pub fn insert(
     mem: &mut [u64],
     d: Numbers,
