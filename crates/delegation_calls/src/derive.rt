@@ -57,13 +57,13 @@ fn derive_taken(
     let n = mem[REGISTERED] as usize;
     let p = place_of(mem, d, token.id());
     if n <= p {
-        return Err(give_back(mem, d, id, Refusal::InvalidCapability));
+        return give_back(mem, d, id, Err(Refusal::InvalidCapability));
     }
     if !is_current(mem, d, token, p) {
-        return Err(give_back(mem, d, id, Refusal::CapabilityRevoked));
+        return give_back(mem, d, id, Err(Refusal::CapabilityRevoked));
     }
     if d.places <= n {
-        return Err(give_back(mem, d, id, Refusal::RegistryFull));
+        return give_back(mem, d, id, Err(Refusal::RegistryFull));
     }
     derive_with(mem, d, target, token, rights, id, p)
 }

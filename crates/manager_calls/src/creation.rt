@@ -32,7 +32,7 @@ fn create_with(
         ≡ created d s object cap_type rights.0 mem.old (Some id) }
 {
     if d.places <= mem[REGISTERED] as usize {
-        return Err(give_back(mem, d, id, Refusal::RegistryFull));
+        return give_back(mem, d, id, Err(Refusal::RegistryFull));
     }
     register(mem, d, id, object, 0);
     let token = token_of(id, cap_type, rights);

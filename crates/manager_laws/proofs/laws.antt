@@ -24,3 +24,4 @@ pub mod Deleted
 pub mod Meaning
 pub mod Census
 pub mod Children
+pub mod Determined

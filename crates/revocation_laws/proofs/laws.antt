@@ -17,3 +17,4 @@ pub mod Unregistered
 pub mod Tree
 pub mod Queues
 pub mod Readings
+pub mod Determined

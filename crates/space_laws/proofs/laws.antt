@@ -1,5 +1,6 @@
 -- Laws of the calls of a space, from their definitions alone.
 pub mod CheckRights
+pub mod Determined
 pub mod Elsewhere
 pub mod Finding
 pub mod Holding

@@ -10,7 +10,7 @@ pub struct Done {
     pub count: usize,
 }
 
-/// Why a call refuses, and the count that it answers: a check's and a held revoke's visits, else 0.
+/// Why a call refuses, and the count that it answers: the slots that its search visited, 0 where it refused before a search or makes none.
 #[derive(Clone, Copy, PartialEq, Eq, Debug)]
 pub struct Refused {
     pub refusal: Refusal,

@@ -1,14 +1,14 @@
 // Whether a table is sound: document 01's rules of one table, with a pass over its slots and a search of each live one's id.
 #![tactic(auto)]
 
-ghost use Rattle.std.specs.Prelude.{true, ◌≡◌, ◌+◌, ◌*◌, ◌≤◌, ◌<◌, ltb, length, get_or};
+ghost use Rattle.std.specs.Prelude.{true, ◌≡◌, ◌+◌, ◌*◌, ◌≤◌, ◌<◌, eqb, ltb, length, get_or};
 ghost use Rattle.base.specs.Below.{all, one};
 ghost use Rattle.base.specs.Choose.{both};
-ghost use Rattle.table.specs.Slots.{kind_at, is_kind};
+ghost use Rattle.table.specs.Slots.{kind_at};
 ghost use Rattle.table.specs.Insert.{slots_for};
 ghost use Rattle.table.specs.Sound.{ends_here, coded_at, coded_test, capacity_test, agree_test, room_test, unused_test, most_test, found_test, live_slots, sound_test};
 
-use table::{CapTable, Kind, Table, id_at, is_kind, kind_at, slots_for};
+use table::{CapTable, Kind, Table, id_at, kind_at, slots_for};
 
 // 0 slots or a power of two from 8 to the most that there can be.
 fn is_capacity(slots: usize, most: usize) -> bool
@@ -39,12 +39,12 @@ fn is_found(table: &Table<'_>, i: usize) -> bool
     table.find(id_at(table.words, i)).found == Some(i)
 }
 
-// 1 for a slot of that kind, 0 for any other.
-pub fn one_of(words: &[u64], i: usize, kind: Kind) -> usize
+// 1 for a slot of the kind with that number, any number, 0 for any other.
+pub fn one_of(words: &[u64], i: usize, kind: u64) -> usize
     requires { (i < 512) × (4 * i + 3 < length words.now) }
-    ensures { (result ≡ one (is_kind kind (kind_at words.now i))) × (result ≤ 1) }
+    ensures { (result ≡ one (eqb (kind_at words.now i) kind)) × (result ≤ 1) }
 {
-    is_kind(words, i, kind) as usize
+    (kind_at(words, i) == kind) as usize
 }
 
 // 1 for a slot of a listed kind, 0 for any other.
@@ -67,8 +67,8 @@ fn kinds_sound(words: &[u64], t: CapTable, live: &mut [u16; 512]) -> bool
     let mut coded = 0;
     for i in 0..t.slots {
         live[n] = i as u16;
-        n += one_of(words, i, Kind::Full);
-        removed += one_of(words, i, Kind::Removed);
+        n += one_of(words, i, Kind::Full as u64);
+        removed += one_of(words, i, Kind::Removed as u64);
         coded += one_coded(words, i);
     }
     coded == t.slots && n == t.full && removed == t.tombstones

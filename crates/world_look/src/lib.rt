@@ -49,7 +49,7 @@ fn live_ids(words: &[u64], slots: usize, ids: &mut [u64; 512]) -> usize
     let mut n = 0;
     for i in 0..slots {
         ids[n] = table::entry_at(words, i).capability.id();
-        n += table_look::one_of(words, i, table::Kind::Full);
+        n += table_look::one_of(words, i, table::Kind::Full as u64);
     }
     n
 }
