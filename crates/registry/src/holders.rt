@@ -2,12 +2,18 @@
 ghost use Rattle.std.specs.Prelude.{◌≡◌, ◌+◌, ◌*◌, ◌≤◌, length};
 ghost use Rattle.registry.specs.Holders.{place_of, held, released, held_all, released_all};
 
-// The place of an id among the n that are registered, or n.
+// The place of an id among the n that are registered, or n. A `for`, since `position` takes half as long again here, where the ids of a
+// copy are searched one after the other.
 pub fn place_of(rg: &[u64], n: usize, id: u64) -> usize
     requires { n ≤ length rg.now }
     ensures { (result ≡ place_of n rg.now id) × (result ≤ n) }
 {
-    rg[..n].iter().position(|x| *x == id).unwrap_or(n)
+    for k in 0..n {
+        if rg[k] == id {
+            return k;
+        }
+    }
+    n
 }
 
 // A capability space now holds the id.

@@ -11,7 +11,12 @@ pub fn has_pair(lg: &[u64], n: usize, pair: u64) -> bool
     requires { n ≤ length lg.now }
     ensures { result ≡ log_has n lg.now pair }
 {
-    lg[..n].contains(&pair)
+    for k in 0..n {
+        if lg[k] == pair {
+            return true;
+        }
+    }
+    false
 }
 
 // Whether the pairs of a whole log have this one, by their index.

@@ -4,30 +4,31 @@ ghost use Rattle.base.specs.Choose.{both};
 ghost use Rattle.base.specs.Written.{written};
 ghost use Rattle.revocation.specs.Queue.{notices};
 ghost use Rattle.steps.specs.Ready.{Fits, QueuesReady};
-ghost use Rattle.world.specs.Regions.{queue, view};
+ghost use Rattle.world.specs.Regions.{StartsAt, queue, view};
 ghost use Rattle.world.specs.Sound.{lengths, pids};
 ghost use Rattle.revocation_steps.specs.Revocation.{queue_for, free_queue, free_queues, is_in, new_queues, notify_step, notify_pids, notify_all, free_step};
 
 use revocation::RevocationReason;
-use revocation::queues::{LENGTH, PID};
+use revocation::queues::{LENGTH, PID, QUEUE};
 use world::Numbers;
 use world::regions::queue_at;
 
-// Whether place q is the queue of the pid.
-fn is_queue_of(mem: &[u64], d: Numbers, q: usize, pid: u64) -> bool
-    requires { Fits d mem.now × (q < d.queues) }
+// Whether place q, counted from where the first queue starts, is the queue of the pid. Where that is, each loop below computes once: a
+// cascade makes these tests for every id and every pid.
+fn is_queue_of(mem: &[u64], d: Numbers, first: usize, q: usize, pid: u64) -> bool
+    requires { Fits d mem.now × StartsAt d (queue 0) first × (q < d.queues) }
     ensures { result ≡ both (ltb 0 (lengths d mem.now q)) (eqb (pids d mem.now q) pid) }
 {
-    let at = queue_at(d, q);
+    let at = first + q * QUEUE;
     0 < mem[at + LENGTH] && mem[at + PID] == pid
 }
 
 // Whether it is free.
-fn is_free(mem: &[u64], d: Numbers, q: usize) -> bool
-    requires { Fits d mem.now × (q < d.queues) }
+fn is_free(mem: &[u64], d: Numbers, first: usize, q: usize) -> bool
+    requires { Fits d mem.now × StartsAt d (queue 0) first × (q < d.queues) }
     ensures { result ≡ eqb (lengths d mem.now q) 0 }
 {
-    queue_length(mem, d, q) == 0
+    mem[first + q * QUEUE + LENGTH] == 0
 }
 
 // The place of the queue of a pid, or how many places there are.
@@ -35,8 +36,9 @@ pub fn queue_for(mem: &[u64], d: Numbers, pid: u64) -> usize
     requires { Fits d mem.now }
     ensures { (result ≡ queue_for d mem.now pid) × (result ≤ d.queues) }
 {
+    let first = queue_at(d, 0);
     for q in 0..d.queues {
-        if is_queue_of(mem, d, q, pid) {
+        if is_queue_of(mem, d, first, q, pid) {
             return q;
         }
     }
@@ -48,8 +50,9 @@ pub fn free_queue(mem: &[u64], d: Numbers) -> usize
     requires { Fits d mem.now }
     ensures { (result ≡ free_queue d mem.now) × (result ≤ d.queues) }
 {
+    let first = queue_at(d, 0);
     for q in 0..d.queues {
-        if is_free(mem, d, q) {
+        if is_free(mem, d, first, q) {
             return q;
         }
     }
@@ -61,9 +64,10 @@ pub fn free_queues(mem: &[u64], d: Numbers) -> usize
     requires { Fits d mem.now }
     ensures { (result ≡ free_queues d mem.now) × (result ≤ d.queues) }
 {
+    let first = queue_at(d, 0);
     let mut free = 0;
     for q in 0..d.queues {
-        free += is_free(mem, d, q) as usize;
+        free += is_free(mem, d, first, q) as usize;
     }
     free
 }
