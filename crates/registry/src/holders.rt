@@ -2,8 +2,8 @@
 ghost use Rattle.std.specs.Prelude.{◌≡◌, ◌+◌, ◌*◌, ◌≤◌, length};
 ghost use Rattle.registry.specs.Holders.{place_of, held, released, held_all, released_all};
 
-// The place of an id among the n that are registered, or n. A `for`, since `position` takes half as long again here, where the ids of a
-// copy are searched one after the other.
+// The place of an id among the n that are registered, or n. A `for`, since a copy, which searches the ids of two spaces one after the
+// other, took 1.4 times as long with `position`.
 pub fn place_of(rg: &[u64], n: usize, id: u64) -> usize
     requires { n ≤ length rg.now }
     ensures { (result ≡ place_of n rg.now id) × (result ≤ n) }

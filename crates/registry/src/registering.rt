@@ -67,7 +67,7 @@ pub fn unregister(rg: &mut [u64], places: usize, n: usize, k: usize)
 }
 
 impl Registry<'_> {
-    // A `for`, since `contains` takes twice as long here, and a collection asks this of each child that nobody holds.
+    // A `for`, since a collection, which asks this of each child that nobody holds, took 1.8 times as long with `contains`.
     fn has_child(&self, k: usize) -> bool
         requires { k < self.now.count }
         ensures { result ≡ has_child self.now.places self.now.count self.now.words.now k }

@@ -30,7 +30,8 @@ pub fn is_revoked(mem: &[u64], token: CapabilityToken) -> Result<Done, Refused>
     Ok(Done::with(logged as u64))
 }
 
-/// The epoch, in 64 bits, wrapping: up by one for each id that is revoked, and each time that one is asked to be which is not registered.
+/// The epoch, in 64 bits, wrapping: up by one for each registered id that is revoked, and each time that a token of another id is accepted,
+/// logged already or not.
 #[tactic(auto, unfolding(crate::specs::Calls::epoch_out, steps::specs::Enter::on_world))]
 pub fn epoch(mem: &[u64]) -> Result<Done, Refused>
     ensures { told result ≡ epoch_out mem.now }

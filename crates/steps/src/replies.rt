@@ -10,7 +10,7 @@ pub struct Done {
     pub count: usize,
 }
 
-/// Why a call refuses, and the count that it answers: the slots that its search visited, 0 where it refused before a search or makes none.
+/// Why a call refuses, and its count: the visits of its lookup, where its count is visits and it refuses after that, else 0.
 #[derive(Clone, Copy, PartialEq, Eq, Debug)]
 pub struct Refused {
     pub refusal: Refusal,

@@ -1,14 +1,15 @@
 -- What the contract of each call says is one equation whose right side speaks of the input alone: `told result ≡ the_out mem.now ..` where
 -- nothing is lent to be changed, `record { reply = told result; memory = mem.new } ≡ the_out mem.old ..` where the memory is, `record {
 -- reply = told result; area = area.new } ≡ the_out ..` where an area is (get_children, get_derivation_tree, peek_notifications,
--- write_reason), and the one inside the other where both are (drain_notifications). `told`, and each other definition that a contract
--- tells an outcome by, tells no two outcomes alike. Two results that keep a contract on one input are therefore equal, in answer, value
--- and count, memory and area.
+-- write_reason), and the one inside the other where both are (drain_notifications, run). An opening has its answer beside the memory.
+-- `told`, and each other definition that a contract tells an outcome by, tells no two outcomes alike. Two results that keep a contract on
+-- one input are therefore equal, in answer, value and count, memory and area.
 use Rattle.std.specs.Prelude.{⊤, Result, Ok, Err}
 use Rattle.std.proofs.Common.{◌≡◌, refl, ℕ, List, sym, ap, ◌∙◌}
 use Rattle.answers.specs.Answer.{Answer, Refuses, answer_of}
 use Rattle.answers.specs.Answer as answers
 use Rattle.answers.specs.declared.Refusal.{Refusal}
+use Rattle.world.specs.Open.{OpenOut}
 use Rattle.steps.specs.Replies.{Left, WithArea, Reply, told}
 use Rattle.steps.specs.declared.replies.Done.{Done}
 use Rattle.steps.specs.declared.replies.Refused.{Refused}
@@ -103,3 +104,12 @@ one_outcome_both out a b area listed left after p q =
     let same = one_result out _ _ left after p q in
     let seen = one_outcome_listed _ a b area listed same.0 refl in
     (seen.0, seen.1, same.1)
+
+-- An opening.
+pub one_opening :
+    (out : OpenOut) (a b : Result ⊤ Refusal) (left after : List ℕ) → record { answer = answer_of a; memory = left } ≡ out
+    → record { answer = answer_of b; memory = after } ≡ out
+    → (a ≡ b) × (left ≡ after)
+one_opening out a b left after p q =
+    let same = one_answer out _ _ p q in
+    (opening_determines a b (ap (λ (o : OpenOut). o.answer) same), ap (λ (o : OpenOut). o.memory) same)
