@@ -6,17 +6,12 @@ ghost use Rattle.revocation.specs.Log.{log_has, absent_of, appended};
 
 use base::distinct::Index;
 
-// Whether the log, of n pairs, has the pair. A `for`, since a batch of tokens that are logged took 1.2 times as long with `contains`.
+// Whether the log, of n pairs, has the pair.
 pub fn has_pair(lg: &[u64], n: usize, pair: u64) -> bool
     requires { n ≤ length lg.now }
     ensures { result ≡ log_has n lg.now pair }
 {
-    for k in 0..n {
-        if lg[k] == pair {
-            return true;
-        }
-    }
-    false
+    lg[..n].contains(&pair)
 }
 
 // Whether the pairs of a whole log have this one, by their index.

@@ -1,20 +1,17 @@
-use Rattle.std.proofs.Common.{rules, eq-eqb, ne_eqb}
-use Rattle.base.specs.FirstLaws.{some_up}
+use Rattle.std.specs.List.{list_any}
+use Rattle.std.proofs.Common.{◌≡◌, ◌∙◌, ap, List, ℕ, ◌≤◌, eqb, length, take, length-take-le, get_or-take, rules}
+use Rattle.base.specs.Listed.{some_listed}
+use Rattle.revocation.specs.Words.{pair_at}
 use Rattle.revocation.specs.Log.{log_has}
 use Rattle.revocation.proofs.log.has_pair.Goals as goal
 
-ruleset laws = (rules, some_up, eq-eqb, ne_eqb)
-
-pub loop-k-init : goal.loop-k-init
-loop-k-init c = search laws
-
-pub returns-then-lg-k : goal.returns-then-lg-k
+has_listed : (n pair : ℕ) (lg : List ℕ) → n ≤ length lg → list_any (λ x. eqb x pair) (take n lg) ≡ log_has n lg pair
 unfolding log_has
-returns-then-lg-k c = search laws
-
-pub loop-k-preserved : goal.loop-k-preserved
-loop-k-preserved c = search laws
+has_listed n pair lg l =
+    some_listed (λ x. eqb x pair) (λ k. eqb (pair_at lg k) pair) (take n lg) n (length-take-le n lg l)
+    (λ k u. ap (λ x. eqb x pair) (get_or-take n lg k 0 u))
 
 pub returns : goal.returns
-unfolding log_has
-returns c = search laws
+returns c =
+    let found : c.contains.result ≡ list_any (λ x. eqb x c.args.pair) (take c.args.n c.args.lg.now) = search rules in
+    found ∙ has_listed _ _ _ c.requires
